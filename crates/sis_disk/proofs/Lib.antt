@@ -1,0 +1,9 @@
+pub mod Answered
+pub mod Appends
+pub mod Counts
+pub mod Firm
+pub mod Images
+pub mod Laid
+pub mod Notes
+pub mod Push
+pub mod Taken

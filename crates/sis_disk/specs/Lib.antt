@@ -1,0 +1,11 @@
+pub mod Failing
+pub mod Guid
+pub mod Kept
+pub mod Layout
+pub mod Live
+pub mod Memory
+pub mod MemoryStreams
+pub mod Record
+pub mod Stops
+pub mod Streams
+pub mod Superblock

@@ -1,0 +1,30 @@
+-- What a source takes, what a sink holds, and what a count of faults says of an answer.
+use Rattle.std.specs.Prelude.{◌≡◌, ℕ, ◌≤◌, ◌++◌, List, [], Option, None, Some, Result, OnErr, ⊤}
+use Rattle.sis_disk.specs.Record.{Rose}
+
+-- an error comes only with a fault
+pub record HasCause {T E : Type 0} (before now : ℕ) (result : Result T E) : Type 0 where
+  pub later : before ≤ now
+  pub failed : OnErr result (Rose before now)
+
+-- Where a source tells what it has left, a read takes the next bytes, and none only at the end.
+abbrev pub Takes : Option (List ℕ) → Option (List ℕ) → List ℕ → Type 0
+Takes None None bytes = ⊤
+Takes (Some left) (Some rest) bytes = (left ≡ bytes ++ rest) × (bytes ≡ [] → rest ≡ [])
+Takes None (Some rest) bytes = ⊥
+Takes (Some left) None bytes = ⊥
+
+-- a failed read takes nothing
+abbrev pub TakesNothing : Option (List ℕ) → Option (List ℕ) → Type 0
+TakesNothing old new = new ≡ old
+
+-- Where a sink tells what it holds, the bytes were appended.
+abbrev pub Appended : Option (List ℕ) → Option (List ℕ) → List ℕ → Type 0
+Appended None None bytes = ⊤
+Appended (Some old) (Some new) bytes = new ≡ old ++ bytes
+Appended None (Some new) bytes = ⊥
+Appended (Some old) None bytes = ⊥
+
+-- a front of the bytes was appended
+abbrev pub AppendedFront : Option (List ℕ) → Option (List ℕ) → List ℕ → Type 0
+AppendedFront old new bytes = (front rest : List ℕ) × (bytes ≡ front ++ rest) × Appended old new front

@@ -1,0 +1,109 @@
+//! A disk over an opened file. It tells nothing of the file's bytes, which may be anything.
+ghost use Rattle.std.specs.Prelude.{◌≡◌, ◌+◌, None, IfOk, OnOk, OnErr};
+ghost use Rattle.sis_disk.specs.Failing.{raised};
+
+use crate::{Disk, DiskFault};
+use std::fs::OpenFile;
+use std::io;
+use std::os::unix::fs::FileExt;
+
+/// A disk over an opened file, whose length is that at opening.
+///
+/// It is part of what is trusted: no clause says which bytes a file gives, nor that a sync makes
+/// them stable.
+#[derive(Drop)]
+pub struct ImageFile<F: FileExt + OpenFile + Drop> {
+    file: F,
+    size: u64,
+    calls: u64,
+    faults: u64,
+}
+
+impl<F: FileExt + OpenFile + Drop> ImageFile<F> {
+    /// A disk over this file, which is open for reading and writing.
+    pub fn new(file: F) -> io::Result<ImageFile<F>>
+        ensures calls { IfOk result (λ disk. disk.calls ≡ 0) }
+        ensures faults { IfOk result (λ disk. disk.faults ≡ 0) }
+    {
+        let size = file.metadata()?.len();
+        Ok(ImageFile {
+            file,
+            size,
+            calls: 0,
+            faults: 0,
+        })
+    }
+
+    #[tactic(auto, using(crate::proofs::Counts::raised_is))]
+    fn fault(&mut self) -> DiskFault
+        ensures { self.new ≡ record self.old { faults = raised self.old.faults } }
+    {
+        self.faults = self.faults.saturating_add(1);
+        DiskFault
+    }
+
+    // Counts a call, and refuses it where no number is left for it.
+    fn begin(&mut self) -> Result<(), DiskFault>
+        ensures ok { OnOk result (self.new ≡ record self.old { calls = self.old.calls + 1 }) }
+        ensures err { OnErr result
+            (self.new ≡ record self.old { faults = raised self.old.faults }) }
+    {
+        if self.calls == u64::MAX {
+            return Err(self.fault());
+        }
+        self.calls += 1;
+        Ok(())
+    }
+
+    fn end(&mut self, outcome: io::Result<()>) -> Result<(), DiskFault>
+        ensures ok { OnOk result (self.new ≡ self.old) }
+        ensures err { OnErr result
+            (self.new ≡ record self.old { faults = raised self.old.faults }) }
+    {
+        match outcome {
+            Ok(()) => Ok(()),
+            Err(_) => Err(self.fault()),
+        }
+    }
+}
+
+impl<F: FileExt + OpenFile + Drop> Disk for ImageFile<F> {
+    ghost seen = { λ d. record { size = d.size; calls = d.calls; faults = d.faults; told = None } };
+
+    ghost counted = { λ _. tt };
+
+    ghost sized = { λ _. tt };
+
+    fn len(&self) -> u64 {
+        self.size
+    }
+
+    fn calls(&self) -> u64 {
+        self.calls
+    }
+
+    fn faults(&self) -> u64 {
+        self.faults
+    }
+
+    #[tactic(auto, using(crate::proofs::Counts::raised_later, crate::proofs::Counts::raised_rose))]
+    fn read(&mut self, at: u64, into: &mut [u8]) -> Result<(), DiskFault> {
+        self.begin()?;
+        let outcome = self.file.read_exact_at(into, at);
+        self.end(outcome)
+    }
+
+    #[tactic(auto, using(crate::proofs::Counts::raised_later, crate::proofs::Counts::raised_rose))]
+    fn write(&mut self, at: u64, bytes: &[u8]) -> Result<(), DiskFault> {
+        self.begin()?;
+        let outcome = self.file.write_all_at(bytes, at);
+        self.end(outcome)
+    }
+
+    #[tactic(auto, using(crate::proofs::Counts::raised_later, crate::proofs::Counts::raised_rose))]
+    fn sync(&mut self) -> Result<(), DiskFault> {
+        self.begin()?;
+        let outcome = self.file.sync_all();
+        self.end(outcome)
+    }
+}
