@@ -1,0 +1,5 @@
+pub mod Answer
+pub mod History
+pub mod Order
+pub mod Recorded
+pub mod World

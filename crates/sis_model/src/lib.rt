@@ -1,0 +1,54 @@
+//! Commands, replies and histories as plain data, and in `specs/` what they mean: worlds of separate
+//! files, the answers that a world allows, and the orders of a run.
+#![tactic(auto)]
+
+ghost use Rattle.std.specs.Prelude.{◌≡◌, ℕ, List, [], ◌∷◌, ◌++◌};
+ghost use Rattle.sis_model.specs.declared.command.Command.{Command as ACommand};
+ghost use Rattle.sis_model.specs.declared.history.Entry.{Entry as AnEntry};
+ghost use Rattle.sis_model.specs.declared.history.Line.{Line as ALine};
+ghost use Rattle.sis_model.specs.declared.reply.Reply.{Reply as AReply};
+ghost use Rattle.sis_model.specs.Answer.{MayReply, world_with};
+ghost use Rattle.sis_model.specs.History.{IsLegal, world_after};
+ghost use Rattle.sis_model.specs.Order.{commands_of, exec_order, expected_calls};
+ghost use Rattle.sis_model.specs.World.{World};
+
+mod bytes;
+mod command;
+mod history;
+mod reply;
+#[cfg(test)]
+mod tests;
+
+pub use bytes::Bytes;
+pub use command::Command;
+pub use history::{Entry, History, Line};
+pub use reply::{Hindrance, Reply};
+
+/// In the order of a run each client makes its own commands, and then its end.
+pub fn exec_order_is_expected()
+    ensures { (client : ℕ) (lines : List ALine)
+        → commands_of client (exec_order lines) ≡ expected_calls lines client }
+{}
+
+/// A history with one more entry is legal exactly where it was legal before and its world allows the
+/// entry, whose reply then leaves the next world.
+pub fn legal_history_goes_on()
+    ensures legal { (w : World) (es : List AnEntry) (e : AnEntry)
+        → IsLegal w es
+        → MayReply (world_after w es) e.client e.command e.reply
+        → IsLegal w (es ++ e ∷ []) }
+    ensures only { (w : World) (es : List AnEntry) (e : AnEntry)
+        → IsLegal w (es ++ e ∷ [])
+        → IsLegal w es × MayReply (world_after w es) e.client e.command e.reply }
+    ensures world { (w : World) (es : List AnEntry) (e : AnEntry)
+        → world_after w (es ++ e ∷ [])
+        ≡ world_with (world_after w es) e.client e.command e.reply }
+{}
+
+/// A reply other than `Done` and `Ended` leaves the world.
+pub fn refused_or_hindered_leaves_the_world()
+    ensures { (w : World) (client : ℕ) (command : ACommand) (reply : AReply)
+        → ¬ (reply ≡ Reply.Done)
+        → ((closed : ℕ) → ¬ (reply ≡ Reply.Ended closed))
+        → world_with w client command reply ≡ w }
+{}

@@ -1,0 +1,37 @@
+//! That each call can succeed.
+use crate::{Bytes, Command, Entry, Hindrance, History, Reply};
+use sis_name::Name;
+use std::alloc::AllocError;
+use std::test::Fail;
+
+/// Three bytes.
+const CONTENT: [u8; 3] = [0, 1, 255];
+
+#[test]
+fn a_history_has_the_entries_that_were_added(rt: HostRuntime) -> Result<(), Fail> {
+    let bytes = Bytes::from_vec(CONTENT.to_vec(rt.alloc())?);
+    let copy = bytes.copy(rt.alloc())?;
+    assert_eq!(rt; bytes.as_slice(), CONTENT.as_slice());
+    assert_eq!(rt; copy.as_slice(), CONTENT.as_slice());
+
+    let mut history = History::new(rt.alloc());
+    history.reserve(1)?;
+    history.push(Entry {
+        client: 1,
+        command: Command::Put {
+            name: Name::from_text(rt.alloc(), "a")?,
+            bytes: copy,
+        },
+        reply: Reply::Done,
+        decided: 0,
+        answered: 2,
+    });
+    assert_eq!(rt; history.as_slice().len(), 1);
+    assert_eq!(rt; history.as_slice()[0].reply, Reply::Done);
+    Ok(())
+}
+
+#[test]
+fn want_of_memory_hinders(rt: HostRuntime) {
+    assert_eq!(rt; Hindrance::from(AllocError), Hindrance::Memory);
+}
