@@ -1,0 +1,5 @@
+pub mod LineLemmas
+pub mod NumberLemmas
+pub mod PrintLemmas
+pub mod TakenLemmas
+pub mod TurnLemmas

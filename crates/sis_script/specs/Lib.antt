@@ -1,0 +1,6 @@
+pub mod Fields
+pub mod Printed
+pub mod Script
+pub mod Steps
+pub mod Taken
+pub mod Views
