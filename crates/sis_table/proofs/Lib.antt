@@ -1,0 +1,14 @@
+pub mod ContentLemmas
+pub mod EditLemmas
+pub mod GoodLemmas
+pub mod ImageLemmas
+pub mod Lengths
+pub mod NameIndex
+pub mod PutLemmas
+pub mod ReadingLaws
+pub mod ReadingLoops
+pub mod ReadingNames
+pub mod ReadingNodes
+pub mod ReadingRuns
+pub mod ReadingSteps
+pub mod RunLemmas

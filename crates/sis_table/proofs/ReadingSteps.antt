@@ -1,0 +1,128 @@
+-- Steps of reading: what a step that didn't fail gave, and what a step on spelled bytes gives.
+use Rattle.std.proofs.Common.{◌≡◌, ℕ, zero, suc, ◌+◌, ◌*◌, ◌^◌, ◌<◌, ◌≤◌, ◌/◌, ◌%◌, Bool, true, false, ltb, List, [], ◌∷◌, ◌++◌, length, get_or, take, drop, Result, Ok, Err, refl, sym, ap, subst, ◌∙◌, append_assoc, arith}
+use Rattle.std.proofs.Math.Nat.{pow-succ', div-div-eq-div-mul, div-one}
+use Rattle.std.proofs.lemmas.Bool.{ltb-false, le-ltb}
+use Rattle.std.proofs.lemmas.List.{drop_at, take-append-drop, length-append, get_or-drop}
+use Rattle.std.specs.Int.{byte_at, bytes_low_first}
+use Rattle.byteorder.specs.Endian.{little_number, little_bytes}
+use Rattle.byteorder.specs.Numbers.{little_from-cons, little_from-lt, little_number-reads_back, length-bytes_low_first}
+use Rattle.sis_disk.specs.declared.layout.TableKind.{TableKind}
+use Rattle.sis_disk.specs.declared.layout.TableKind.TheVariants as kinds
+use Rattle.sis_table.specs.Reading.{Fault, ◌>>=◌, guard, number_at}
+
+-- each item is a byte
+abbrev pub IsBytes : List ℕ → Type 0
+IsBytes bytes = (i : ℕ) → get_or bytes i 0 < 256
+
+pub IsBytes-drop : (n : ℕ) (bytes : List ℕ) → IsBytes bytes → IsBytes (drop n bytes)
+IsBytes-drop n bytes h i = rw get_or-drop (h (n + i))
+
+-- what a reader took from the front
+pub record Takes (bytes text rest : List ℕ) : Type 0 where
+  pub parts : bytes ≡ text ++ rest
+  pub rest_fits : IsBytes rest
+
+pub Takes-then : (a x b y c : List ℕ) → Takes a x b → Takes b y c → Takes a (x ++ y) c
+Takes-then a x b y c p q = record {
+  parts = p.parts ∙ ap (λ (t : List ℕ). x ++ t) q.parts ∙ sym (append_assoc x y c);
+  rest_fits = q.rest_fits;
+}
+
+-- the value of a step that did not fail
+pub bind_ok : {A B : Type 0} (r : Result A Fault) (f : A → Result B Fault) (y : B) → (r >>= f) ≡ Ok y → (x : A) × (r ≡ Ok x) × (f x ≡ Ok y)
+bind_ok (Ok x) f y e = (x, refl, e)
+bind_ok (Err d) f y e = absurd cc
+
+abbrev done : {A : Type 0} → A → Result A Fault
+done x = Ok x
+
+pub ok_is : {A : Type 0} (x y : A) → done x ≡ done y → x ≡ y
+ok_is x y e = cc
+
+-- a field that was read wasn't wrong
+pub guard_ok : {B : Type 0} (total : ℕ) (bytes : List ℕ) (rule : TableKind) (wrong : Bool) (f : Unit {0} → Result B Fault) (y : B) → (guard total bytes rule wrong (tt {0}) >>= f) ≡ Ok y → (wrong ≡ false) × (f (tt {0}) ≡ Ok y)
+guard_ok total bytes rule true f y e = absurd cc
+guard_ok total bytes rule false f y e = (refl, e)
+
+pub guarded : {A : Type 0} (total : ℕ) (bytes : List ℕ) (rule : TableKind) (wrong : Bool) (x y : A) → guard total bytes rule wrong x ≡ Ok y → (wrong ≡ false) × (x ≡ y)
+guarded total bytes rule true x y e = absurd cc
+guarded total bytes rule false x y e = (refl, cc)
+
+pub bind_again : {A B : Type 0} (r : Result A Fault) (x : A) (f : A → Result B Fault) (y : Result B Fault) → r ≡ Ok x → f x ≡ y → (r >>= f) ≡ y
+bind_again r x f y is e = rw is e
+
+pub guard_again : {B : Type 0} (total : ℕ) (bytes : List ℕ) (rule : TableKind) (wrong : Bool) (f : Unit {0} → Result B Fault) (y : Result B Fault) → wrong ≡ false → f (tt {0}) ≡ y → (guard total bytes rule wrong (tt {0}) >>= f) ≡ y
+guard_again total bytes rule wrong f y right e = rw right e
+
+-- ---- numbers
+
+-- a number that is not above 0
+pub none_above : (n : ℕ) → ltb 0 n ≡ false → n ≡ 0
+none_above n h = let le : n ≤ 0 = ltb-false 0 n h in omega arith
+
+byte_at-pow : (k x : ℕ) → byte_at k x ≡ x / 256 ^ k % 256
+byte_at-pow zero x = ap (λ (y : ℕ). y % 256) (sym (div-one x))
+byte_at-pow (suc k) x = refl
+
+byte_at-next : (i x : ℕ) → byte_at (suc i) x ≡ byte_at i (x / 256)
+byte_at-next i x = byte_at-pow (suc i) x ∙ ap (λ (p : ℕ). x / p % 256) (pow-succ' 256 i)
+    ∙ ap (λ (q : ℕ). q % 256) (sym (div-div-eq-div-mul x 256 (256 ^ i))) ∙ sym (byte_at-pow i (x / 256))
+
+bytes-next : (i n x : ℕ) → bytes_low_first (suc i) n x ≡ bytes_low_first i n (x / 256)
+bytes-next i zero x = refl
+bytes-next i (suc n) x = rw (byte_at-next i x, bytes-next (suc i) n x) refl
+
+low_byte : (a b : ℕ) → a < 256 → (a + 256 * b) % 256 ≡ a
+low_byte a b lt = omega arith
+
+high_bytes : (a b : ℕ) → a < 256 → (a + 256 * b) / 256 ≡ b
+high_bytes a b lt = omega arith
+
+-- bytes are those of the number that they spell
+pub bytes_again : (n : ℕ) (bytes : List ℕ) → IsBytes bytes → n ≤ length bytes → little_bytes n (little_number n bytes) ≡ take n bytes
+bytes_again zero bytes fits long = refl
+bytes_again (suc n) [] fits long = absurd (omega arith)
+bytes_again (suc n) (b ∷ bytes) fits long =
+    let moved : little_number (suc n) (b ∷ bytes) ≡ b + 256 * little_number n bytes = ap (λ (k : ℕ). b + 256 * k) (little_from-cons 0 n b bytes) in
+    let small : b < 256 = fits 0 in
+    let behind : bytes_low_first 1 n (b + 256 * little_number n bytes) ≡ take n bytes =
+    bytes-next 0 n (b + 256 * little_number n bytes) ∙ ap (λ (k : ℕ). bytes_low_first 0 n k) (high_bytes b (little_number n bytes) small)
+    ∙ bytes_again n bytes (λ i. fits (suc i)) (omega arith) in
+    ap (little_bytes (suc n)) moved ∙ rw (low_byte b (little_number n bytes) small, behind) refl
+
+pub number_takes : (n total : ℕ) (bytes : List ℕ) (x : ℕ × List ℕ) → IsBytes bytes → number_at n total bytes ≡ Ok x → Takes bytes (little_bytes n x.0) x.1 × (x.0 < 256 ^ n)
+unfolding number_at
+number_takes n total bytes x fits e =
+    let g = guarded total bytes kinds.Short (ltb (length bytes) n) (little_number n bytes, drop n bytes) x e in
+    let long : n ≤ length bytes = ltb-false _ _ g.0 in
+    let front : little_bytes n (little_number n bytes) ≡ take n bytes = bytes_again n bytes fits long in
+    let taken : Takes bytes (little_bytes n (little_number n bytes)) (drop n bytes) = record { parts = rw front (sym (take-append-drop n bytes)); rest_fits = IsBytes-drop n bytes fits } in
+    subst (λ (y : ℕ × List ℕ). Takes bytes (little_bytes n y.0) y.1 × (y.0 < 256 ^ n)) g.1 (taken, little_from-lt 0 n bytes fits)
+
+pub number_again : (n total x : ℕ) (rest : List ℕ) → x < 256 ^ n → number_at n total (little_bytes n x ++ rest) ≡ Ok (x, rest)
+unfolding number_at
+number_again n total x rest lt =
+    let len : length (little_bytes n x) ≡ n = length-bytes_low_first 0 n x in
+    let long : ltb (length (little_bytes n x ++ rest)) n ≡ false = le-ltb _ _ (omega (arith, length-append (little_bytes n x) rest)) in
+    rw (long, little_number-reads_back n x rest lt, drop_at (little_bytes n x) rest n len) refl
+
+-- a number that was read, and what was read behind it
+pub number_step : {B : Type 0} (n total : ℕ) (bytes : List ℕ) (f : ℕ × List ℕ → Result B Fault) (y : B) → IsBytes bytes → (number_at n total bytes >>= f) ≡ Ok y → (x : ℕ × List ℕ) × Takes bytes (little_bytes n x.0) x.1 × (x.0 < 256 ^ n) × (f x ≡ Ok y)
+number_step n total bytes f y fits e =
+    let b = bind_ok (number_at n total bytes) f y e in
+    let t = number_takes n total bytes b.0 fits b.1 in
+    (b.0, t.0, t.1, b.2)
+
+pub number_back : {B : Type 0} (n total x : ℕ) (rest : List ℕ) (f : ℕ × List ℕ → Result B Fault) (y : Result B Fault) → x < 256 ^ n → f (x, rest) ≡ y → (number_at n total (little_bytes n x ++ rest) >>= f) ≡ y
+number_back n total x rest f y lt e = bind_again (number_at n total (little_bytes n x ++ rest)) (x, rest) f y (number_again n total x rest lt) e
+
+-- the same, with what follows as a function of what was read
+pub bind_then : {A B : Type 0} (r : Result A Fault) (f : A → Result B Fault) (y : B) (P : Type 0) → (r >>= f) ≡ Ok y → ((x : A) → r ≡ Ok x → f x ≡ Ok y → P) → P
+bind_then (Ok x) f y P e next = next x refl e
+bind_then (Err d) f y P e next = absurd cc
+
+pub number_then : {B : Type 0} (n total : ℕ) (bytes : List ℕ) (f : ℕ × List ℕ → Result B Fault) (y : B) (P : Type 0) → IsBytes bytes → (number_at n total bytes >>= f) ≡ Ok y
+    → ((x : ℕ) (rest : List ℕ) → Takes bytes (little_bytes n x) rest → x < 256 ^ n → f (x, rest) ≡ Ok y → P) → P
+number_then n total bytes f y P fits e next =
+    let s = number_step n total bytes f y fits e in
+    next s.0.0 s.0.1 s.1 s.2 s.3

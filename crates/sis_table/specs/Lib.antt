@@ -1,0 +1,9 @@
+pub mod Content
+pub mod Edits
+pub mod Good
+pub mod Image
+pub mod Index
+pub mod Reading
+pub mod Runs
+pub mod Spelling
+pub mod Volume

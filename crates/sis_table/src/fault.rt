@@ -1,0 +1,66 @@
+//! Why some bytes are no table, and why the files of a table don't go together.
+use sis_disk::{GoodKind, TableKind};
+use std::alloc::{AllocError, AllocFailed};
+
+/// Why some bytes were not read as a table.
+#[derive(Clone, Copy, Debug, PartialEq, Eq)]
+pub enum TableFault {
+    /// They are no table.
+    At {
+        /// The offset of the first field whose rule fails.
+        at: u64,
+        /// The rule.
+        kind: TableKind,
+    },
+    /// There was no memory.
+    Memory,
+}
+
+impl From<AllocError> for TableFault {
+    ghost use Rattle.std.specs.Prelude.{◌≡◌};
+    ghost use Rattle.sis_table.specs.declared.fault.TableFault.TheVariants.{Memory};
+
+    ghost from_gives = { λ _ e. e ≡ Memory };
+
+    fn from(_e: AllocError) -> TableFault {
+        TableFault::Memory
+    }
+}
+
+impl<T: Drop> From<AllocFailed<T>> for TableFault {
+    ghost use Rattle.std.specs.Prelude.{◌≡◌};
+    ghost use Rattle.sis_table.specs.declared.fault.TableFault.TheVariants.{Memory};
+
+    ghost from_gives = { λ _ e. e ≡ Memory };
+
+    fn from(_e: AllocFailed<T>) -> TableFault {
+        TableFault::Memory
+    }
+}
+
+/// Why the files of a table weren't found to go together.
+#[derive(Clone, Copy, Debug, PartialEq, Eq)]
+pub enum GoodFault {
+    /// They don't.
+    Bad {
+        /// The rule.
+        kind: GoodKind,
+        /// The id of the first file at which it fails.
+        file: u64,
+        /// The index of its link, 0 for a plain file.
+        index: u64,
+    },
+    /// There was no memory.
+    Memory,
+}
+
+impl From<AllocError> for GoodFault {
+    ghost use Rattle.std.specs.Prelude.{◌≡◌};
+    ghost use Rattle.sis_table.specs.declared.fault.GoodFault.TheVariants.{Memory};
+
+    ghost from_gives = { λ _ e. e ≡ Memory };
+
+    fn from(_e: AllocError) -> GoodFault {
+        GoodFault::Memory
+    }
+}

@@ -1,0 +1,36 @@
+//! A file of the table.
+ghost use Rattle.std.specs.Prelude.{◌≡◌, IfOk};
+
+use crate::Runs;
+use sis_name::Name;
+use std::alloc::{AllocError, Global};
+
+/// A file of the table.
+#[derive(Debug, Drop)]
+pub struct Node {
+    /// The file's id, which no other file of the volume ever had.
+    pub id: u64,
+    /// Its name.
+    pub name: Name,
+    /// Its size in bytes, at most 2^36.
+    pub size: u64,
+    /// Its version, which rises with each change of its bytes.
+    pub version: u64,
+    /// Where its blocks lie. A block that lies nowhere has zeros.
+    pub runs: Runs,
+}
+
+impl Node {
+    /// An equal file.
+    pub fn copy(&self, alloc: Global) -> Result<Node, AllocError>
+        ensures { IfOk result (λ copy. copy ≡ self.now) }
+    {
+        Ok(Node {
+            id: self.id,
+            name: self.name.copy(alloc)?,
+            size: self.size,
+            version: self.version,
+            runs: self.runs.copy(alloc)?,
+        })
+    }
+}
