@@ -1,0 +1,7 @@
+pub mod Applying
+pub mod Keeping
+pub mod Kept
+pub mod Opening
+pub mod Places
+pub mod Staging
+pub mod View

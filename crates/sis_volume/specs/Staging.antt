@@ -1,0 +1,39 @@
+-- What staging writes, and where.
+use Rattle.std.specs.Prelude.{◌≡◌, ℕ, ◌+◌, ◌<◌, ◌≤◌, false, List, [], ◌∷◌, ◌++◌, map, flat_map, Option, IfSome, ⊤}
+use Rattle.sis_disk.specs.Record.{Seen, Rose}
+use Rattle.sis_model.specs.declared.reply.Hindrance.{Hindrance}
+use Rattle.sis_model.specs.declared.reply.Hindrance.TheVariants as hindrance
+use Rattle.sis_disk.specs.Layout.{first_place}
+use Rattle.sis_table.specs.Runs.{IsChain, place_end}
+use Rattle.sis_table.specs.Volume.{VolumeTable, is_used}
+use Rattle.sis_table.specs.Edits.{map_edit}
+use Rattle.sis_table.specs.Content.{run_bytes}
+use Rattle.sis_table.specs.declared.runs.Run.{Run}
+use Rattle.sis_volume.specs.View.{TxnView}
+
+-- no file maps a place of the run, and it lies among the data blocks
+pub record IsFree (v : VolumeTable) (r : Run) : Type 0 where
+  pub low : first_place v.layout ≤ r.place
+  pub high : place_end r ≤ v.layout.total
+  pub unused : (place : ℕ) → r.place ≤ place → place < place_end r → is_used v.nodes place ≡ false
+
+-- each of these runs is free and lies behind the one before, between two places
+abbrev pub AreFree : VolumeTable → ℕ → ℕ → List Run → Type 0
+AreFree v from to [] = from ≤ to
+AreFree v from to (r ∷ rs) = (from ≤ r.place) × IsFree v r × AreFree v (place_end r) to rs
+
+-- Blocks of a file, from `first` on, were written to free places that no earlier edit of the
+-- transaction was given, and are mapped by its new edits.
+pub record Stages (v : VolumeTable) (old new : TxnView) (file first blocks : ℕ) (bytes : List ℕ) (live : Option (List ℕ)) (runs : List Run) : Type 0 where
+  pub edits : new.edits ≡ old.edits ++ map (map_edit file) runs
+  pub chain : IsChain first (first + blocks) runs
+  pub places : AreFree v old.from new.from runs
+  pub written : IfSome live (λ now. flat_map (run_bytes now) runs ≡ bytes)
+
+-- why staging may fail: want of memory, or a fault of the disk
+abbrev pub HindersStaging : Seen → Seen → Hindrance → Type 0
+HindersStaging old new hindrance.Memory = ⊤
+HindersStaging old new hindrance.Disk = Rose old.faults new.faults
+HindersStaging old new (hindrance.Full needed used total) = ⊥
+HindersStaging old new (hindrance.TableFull needed cap) = ⊥
+HindersStaging old new (hindrance.Down at) = ⊥

@@ -1,0 +1,117 @@
+//! A disk with its table, and which of its data blocks are mapped.
+ghost use Rattle.std.specs.Prelude.{◌≡◌, ◌*◌, false, IfSome};
+ghost use Rattle.std.specs.Option.{option_map};
+ghost use Rattle.sis_disk.specs.Layout.{IsLayout, data_blocks, table_cap};
+ghost use Rattle.sis_table.specs.Volume.{IsTable, node_named, id_of};
+ghost use Rattle.sis_table.specs.Image.{Holds};
+ghost use Rattle.sis_disk.specs.Record.{live_of};
+
+use sis_disk::{Disk, Layout};
+use sis_name::Name;
+use sis_table::Table;
+use std::marker::Model;
+
+/// A disk with its table, and which of its data blocks are mapped.
+#[derive(Drop)]
+pub struct Volume<D: Disk> {
+    pub(crate) disk: D,
+    pub(crate) table: Table,
+    /// Area B is selected.
+    pub(crate) second: bool,
+    /// For each data block, whether a file maps it.
+    pub(crate) mapped: Vec<bool>,
+    /// Room for the bytes of an area, so that a commit takes no memory.
+    pub(crate) buffer: Vec<u8>,
+    /// The table was edited since the last commit.
+    pub(crate) is_changed: bool,
+    /// The call by which a commit failed.
+    pub(crate) down: Option<u64>,
+}
+
+impl<D: Disk> Model for Volume<D> {
+    ghost use Rattle.std.specs.Prelude.{vec_capacity};
+    ghost use Rattle.sis_volume.specs.View.{VolumeView};
+    ghost use Rattle.sis_volume.specs.Kept.{IsKept};
+
+    ghost Value = { VolumeView };
+
+    ghost view = { λ v. record {
+      seen = D.seen v.disk;
+      table = v.table;
+      is_changed = v.is_changed;
+      down = v.down;
+    } };
+
+    ghost invariant = { λ v. IsKept v.table v.second v.mapped.items (vec_capacity v.buffer) v.is_changed (D.seen v.disk) };
+}
+
+impl<D: Disk> Volume<D> {
+    /// The disk. Takes no memory.
+    pub fn into_disk(self) -> D
+        ensures seen { D.seen result ≡ self.seen }
+        ensures holds { self.is_changed ≡ false
+            → IfSome (live_of self.seen) (λ live. Holds live self.table) }
+    {
+        self.disk
+    }
+
+    /// How many calls the disk has made.
+    pub fn calls(&self) -> u64
+        ensures { result ≡ self.now.seen.calls }
+    {
+        self.disk.calls()
+    }
+
+    /// How many faults the disk has had.
+    pub fn faults(&self) -> u64
+        ensures { result ≡ self.now.seen.faults }
+    {
+        self.disk.faults()
+    }
+
+    /// The image's layout.
+    pub fn layout(&self) -> Layout
+        ensures layout { result ≡ self.now.table.layout }
+        ensures table { IsTable self.now.table }
+        ensures size { self.now.seen.size ≡ 4096 * result.total }
+    {
+        let _ = &self.down;
+        self.table.layout()
+    }
+
+    /// The id that the next file gets.
+    pub fn next_id(&self) -> u64
+        ensures id { result ≡ self.now.table.next_id }
+        ensures table { IsTable self.now.table }
+    {
+        self.table.next_id()
+    }
+
+    /// The file of this name.
+    pub fn find(&self, name: &Name) -> Option<u64>
+        ensures { result ≡ option_map id_of (node_named self.now.table name.now) }
+    {
+        self.table.find(name)
+    }
+
+    /// The number of data blocks.
+    pub fn total(&self) -> u64
+        ensures { result ≡ data_blocks self.now.table.layout }
+    {
+        self.layout().data_blocks()
+    }
+
+    /// The greatest length of the table, in bytes.
+    pub fn table_cap(&self) -> u64
+        ensures { result ≡ table_cap self.now.table.layout }
+    {
+        self.layout().cap()
+    }
+
+    /// The disk's call by which a commit failed.
+    pub fn down(&self) -> Option<u64>
+        ensures { result ≡ self.now.down }
+    {
+        self.down
+    }
+}
