@@ -1,0 +1,4 @@
+pub mod Makes
+pub mod Puts
+pub mod Runs
+pub mod ServeLemmas

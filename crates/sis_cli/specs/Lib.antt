@@ -1,0 +1,5 @@
+pub mod Exit
+pub mod Making
+pub mod Run
+pub mod Session
+pub mod Words

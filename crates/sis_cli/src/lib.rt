@@ -1,0 +1,17 @@
+//! The top calls: the words of the command line, and `run`.
+#![tactic(auto)]
+
+mod exit;
+mod fault_line;
+mod files;
+mod session;
+#[cfg(test)]
+mod tests;
+mod top;
+mod usage;
+mod words;
+
+pub use exit::{Exit, Outcome};
+pub use top::run;
+pub use usage::{Plan, UsageFault, UsageKind, Verb};
+pub use words::plan;
