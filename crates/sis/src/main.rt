@@ -1,0 +1,57 @@
+//! Single Instance Storage over a volume in one image file: the program `sis`.
+//!
+//! `main` makes the real things (the image file, standard input and output) and calls `run` of
+//! `sis_cli`, whose contract says what it does.
+#![tactic(auto)]
+
+use sis_cli::{Exit, plan, run};
+use sis_disk::{CounterGuids, ImageFile, StdSink, StdSource};
+use std::alloc::{AllocError, Global};
+use std::fs::{File, OpenOptions};
+use std::process::ExitCode;
+use std::{env, io};
+
+/// The status where the image file can't be opened.
+const NOT_OPENED: u8 = 11;
+
+fn words_of(alloc: Global, arguments: &[String]) -> Result<Vec<&str>, AllocError> {
+    let mut words = Vec::new(alloc);
+    for argument in arguments {
+        words.push(argument.as_str())?;
+    }
+    Ok(words)
+}
+
+fn open_image(rt: &HostRuntime, path: &str) -> io::Result<ImageFile<File>> {
+    let file = OpenOptions::new().read(true).write(true).open(rt, path)?;
+    ImageFile::new(file)
+}
+
+// Prints the fault line where the run didn't end well. A line that can't be printed is lost.
+fn ended(rt: &HostRuntime, exit: &Exit) -> ExitCode {
+    if *exit != Exit::Done {
+        let _ = eprintln!(rt; "sis: {exit}");
+    }
+    ExitCode::from(exit.status())
+}
+
+fn main(rt: HostRuntime) -> io::Result<ExitCode> {
+    let alloc = rt.alloc();
+    let arguments = env::args(&rt)?.skip(1).collect::<Vec<String>>(alloc)?;
+    let Ok(words) = words_of(alloc, &arguments) else {
+        return Ok(ended(&rt, &Exit::Memory));
+    };
+    let plan = match plan(alloc, &words) {
+        Ok(plan) => plan,
+        Err(fault) => return Ok(ended(&rt, &Exit::from(fault))),
+    };
+    let Ok(disk) = open_image(&rt, plan.image.as_str()) else {
+        let _ = eprintln!(&rt; "sis: open");
+        return Ok(ExitCode::from(NOT_OPENED));
+    };
+    let mut input = StdSource::new(rt.stdin());
+    let mut out = StdSink::new(rt.stdout());
+    let guids = CounterGuids::new(1);
+    let outcome = run(alloc, &words, disk, &mut input, &mut out, guids);
+    Ok(ended(&rt, &outcome.status))
+}
