@@ -33,7 +33,8 @@ fn block_count(size: usize) -> u64
 // The bytes, and zeros behind them up to the end of their last block.
 fn whole_blocks(alloc: Global, bytes: &[u8]) -> Result<Vec<u8>, AllocError>
     requires { length bytes.now ≤ 65536 }
-    ensures size { IfOk result (λ blocks. length blocks.items ≡ 4096 * blocks_of (length bytes.now)) }
+    ensures size { IfOk result (λ blocks. length blocks.items
+        ≡ 4096 * blocks_of (length bytes.now)) }
     ensures front { IfOk result (λ blocks. take (length bytes.now) blocks.items ≡ bytes.now) }
 {
     let size = block_count(bytes.len()) as usize * BLOCK_LEN;
@@ -45,7 +46,8 @@ fn whole_blocks(alloc: Global, bytes: &[u8]) -> Result<Vec<u8>, AllocError>
 
 // The edits that make a file of this size whose blocks are zeros.
 fn new_file(alloc: Global, id: u64, name: &Name, size: u64) -> Result<Txn, Hindrance>
-    ensures edits { IfOk result (λ txn. txn.edits ≡ edit.Make id name.now ∷ edit.Size id size ∷ []) }
+    ensures edits { IfOk result (λ txn. txn.edits
+        ≡ edit.Make id name.now ∷ edit.Size id size ∷ []) }
     ensures from { IfOk result (λ txn. txn.from ≡ 0) }
     ensures name { IfOk result (λ txn. IsName name.now) }
     ensures memory { IfErr result (λ by. by ≡ Hindrance.Memory) }
@@ -77,14 +79,17 @@ fn stage_file<D: Disk>(
         × StagesFile volume.old.table name.now bytes.now (live_of volume.new.seen) txn.edits runs) }
 
     // Why it doesn't.
-    ensures full { data_blocks volume.old.table.layout < used volume.old.table + blocks_of (length bytes.now)
-        → result ≡ Err (Hindrance.Full (blocks_of (length bytes.now)) (used volume.old.table) (data_blocks volume.old.table.layout)) }
+    ensures full { data_blocks volume.old.table.layout
+        < used volume.old.table + blocks_of (length bytes.now)
+        → result ≡ Err (Hindrance.Full (blocks_of (length bytes.now)) (used volume.old.table)
+        (data_blocks volume.old.table.layout)) }
     ensures cause { IfErr result (HindersMaking volume.old volume.new name.now (length bytes.now)) }
 
     // What stays.
     ensures is_table { IsTable volume.old.table }
     ensures table { volume.new.table ≡ volume.old.table }
-    ensures files { files_in volume.new.table volume.new.seen ≡ files_in volume.old.table volume.old.seen }
+    ensures files { files_in volume.new.table volume.new.seen
+        ≡ files_in volume.old.table volume.old.seen }
     ensures down { volume.new.down ≡ volume.old.down }
     ensures is_changed { volume.new.is_changed ≡ volume.old.is_changed }
     ensures elapses { Elapses volume.old.seen volume.new.seen }
@@ -113,19 +118,23 @@ pub(crate) fn make_file<D: Disk>(
 
     // What it makes.
     ensures files { OnOk result (files_in volume.new.table volume.new.seen
-        ≡ option_map (λ files. map.insert files name.now bytes.now) (files_in volume.old.table volume.old.seen)) }
+        ≡ option_map (λ files. map.insert files name.now bytes.now)
+        (files_in volume.old.table volume.old.seen)) }
     ensures names { OnOk result ((q : List ℕ) → list_any (has_name q) volume.new.table.nodes
         ≡ (list_any (has_name q) volume.old.table.nodes || same_name name.now q)) }
 
     // Why it doesn't.
-    ensures full { data_blocks volume.old.table.layout < used volume.old.table + blocks_of (length bytes.now)
-        → result ≡ Err (Hindrance.Full (blocks_of (length bytes.now)) (used volume.old.table) (data_blocks volume.old.table.layout)) }
+    ensures full { data_blocks volume.old.table.layout
+        < used volume.old.table + blocks_of (length bytes.now)
+        → result ≡ Err (Hindrance.Full (blocks_of (length bytes.now)) (used volume.old.table)
+        (data_blocks volume.old.table.layout)) }
     ensures cause { IfErr result (HindersMaking volume.old volume.new name.now (length bytes.now)) }
 
     // What stays.
     ensures is_table { IsTable volume.old.table }
     ensures err { OnErr result (volume.new.table ≡ volume.old.table) }
-    ensures err_files { OnErr result (files_in volume.new.table volume.new.seen ≡ files_in volume.old.table volume.old.seen) }
+    ensures err_files { OnErr result (files_in volume.new.table volume.new.seen
+        ≡ files_in volume.old.table volume.old.seen) }
     ensures layout { volume.new.table.layout ≡ volume.old.table.layout }
     ensures down { volume.new.down ≡ None }
     ensures elapses { Elapses volume.old.seen volume.new.seen }

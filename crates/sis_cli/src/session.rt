@@ -28,7 +28,8 @@ fn put<D: Disk>(volume: &mut Volume<D>, alloc: Global, name: &Name, bytes: &Byte
         → MayReply w client (command.Put name.now bytes.now) result
         × ShowsWorld (world_with w client (command.Put name.now bytes.now) result) volume.new }
     ensures on_new { volume.old.table ≡ empty_table volume.old.table.layout
-        → IsPutOnNew volume.old.table.layout (Rose volume.old.seen.faults volume.new.seen.faults) name.now bytes.now result }
+        → IsPutOnNew volume.old.table.layout
+        (Rose volume.old.seen.faults volume.new.seen.faults) name.now bytes.now result }
     ensures layout { volume.new.table.layout ≡ volume.old.table.layout }
     ensures down { volume.new.down ≡ None }
     ensures elapses { Elapses volume.old.seen volume.new.seen }
@@ -53,9 +54,11 @@ fn end<D: Disk>(volume: &mut Volume<D>) -> Reply
     ensures world { (w : World) → ShowsWorld w volume.old → (client : ℕ)
         → MayReply w client command.End result
         × ShowsWorld (world_with w client command.End result) volume.new }
-    ensures cause { IfHindered result (IsCauseOfEnd (Rose volume.old.seen.faults volume.new.seen.faults)) }
+    ensures cause { IfHindered result
+        (IsCauseOfEnd (Rose volume.old.seen.faults volume.new.seen.faults)) }
     ensures settled { volume.new.down ≡ None → volume.new.is_changed ≡ false }
-    ensures down { IfSome volume.new.down (λ _. Rose volume.old.seen.faults volume.new.seen.faults) }
+    ensures down { IfSome volume.new.down
+        (λ _. Rose volume.old.seen.faults volume.new.seen.faults) }
     ensures layout { volume.new.table.layout ≡ volume.old.table.layout }
     ensures elapses { Elapses volume.old.seen volume.new.seen }
 {
@@ -128,7 +131,8 @@ pub(crate) fn run_lines<D: Disk>(
     requires clean { volume.old.is_changed ≡ false }
     requires few { length lines.items ≤ 1 }
     requires puts { All (λ l. IsPut l.command) lines.items }
-    ensures ran { IfOk result (λ history. HasRun volume.old volume.new lines.items history.entries) }
+    ensures ran { IfOk result
+        (λ history. HasRun volume.old volume.new lines.items history.entries) }
     ensures err { OnErr result (volume.new ≡ volume.old) }
 {
     let mut lines = lines;

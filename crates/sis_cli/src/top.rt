@@ -44,7 +44,8 @@ fn print_end<D: Disk, K: Sink>(
     requires before { before ≤ volume.now.seen.faults }
     requires down { IfSome volume.now.down (λ _. Rose before volume.now.seen.faults) }
     ensures up { result ≡ Exit.Done → volume.now.down ≡ None }
-    ensures printed { result ≡ Exit.Done → Appended (K.held out.old) (K.held out.new) (printed history.now.entries) }
+    ensures printed { result ≡ Exit.Done
+        → Appended (K.held out.old) (K.held out.new) (printed history.now.entries) }
     ensures front { AppendedFront (K.held out.old) (K.held out.new) (printed history.now.entries) }
     ensures cause { CauseOfEnd (record {
       disk = before;
@@ -88,7 +89,8 @@ fn exec_lines<D: Disk, K: Sink>(
       source_now = 0;
       sink = K.faults out.old;
       sink_now = K.faults out.new;
-    }) (K.held out.old) (K.held out.new) (live_of (D.seen result.disk)) result.status result.history.entries }
+    }) (K.held out.old) (K.held out.new) (live_of (D.seen result.disk)) result.status
+        result.history.entries }
 {
     let mut volume = volume;
     match run_lines(&mut volume, alloc, lines) {
@@ -118,7 +120,8 @@ fn exec<D: Disk, S: Source, K: Sink>(
       source_now = S.faults input.new;
       sink = K.faults out.old;
       sink_now = K.faults out.new;
-    }) (K.held out.old) (K.held out.new) (live_of (D.seen result.disk)) result.status result.history.entries }
+    }) (K.held out.old) (K.held out.new) (live_of (D.seen result.disk)) result.status
+        result.history.entries }
 {
     let lines = match read_script(alloc, input) {
         Ok(Script { lines, schedule: _ }) => lines,
@@ -157,35 +160,38 @@ pub fn run<D: Disk, S: Source, K: Sink, G: Guids>(
         → IfSome (S.left input.old) (λ bytes. RunsScript bytes result.history.entries) }
 
     // Each hindrance has its cause, and Full comes exactly where the blocks don't suffice.
-    ensures answers { AreAnswered (live_of (D.seen disk)) (D.seen disk).faults (D.seen result.disk).faults
-        result.history.entries }
+    ensures answers { AreAnswered (live_of (D.seen disk)) (D.seen disk).faults
+        (D.seen result.disk).faults result.history.entries }
 
     // The bytes written are the printed history, or a front of it.
     ensures printed { result.status ≡ Exit.Done
         → Appended (K.held out.old) (K.held out.new) (printed result.history.entries) }
-    ensures front { AppendedFront (K.held out.old) (K.held out.new) (printed result.history.entries) }
+    ensures front { AppendedFront (K.held out.old) (K.held out.new)
+        (printed result.history.entries) }
 
     // The image then holds the files after that history.
     ensures image { result.status ≡ Exit.Done
         → IfSome (live_of (D.seen result.disk)) (HoldsFilesAfter result.history.entries) }
 
     // Why it ends so.
-    ensures cause { ExitCause (texts words.now) (S.left input.old) (live_of (D.seen disk)) (record {
-      disk = (D.seen disk).faults;
-      disk_now = (D.seen result.disk).faults;
-      source = S.faults input.old;
-      source_now = S.faults input.new;
-      sink = K.faults out.old;
-      sink_now = K.faults out.new;
-    }) result.status }
-    ensures complete { IsAccepted (texts words.now) (S.left input.old) (live_of (D.seen disk)) (record {
-      disk = (D.seen disk).faults;
-      disk_now = (D.seen result.disk).faults;
-      source = S.faults input.old;
-      source_now = S.faults input.new;
-      sink = K.faults out.old;
-      sink_now = K.faults out.new;
-    }) → (result.status ≡ Exit.Done) ⊎ (result.status ≡ Exit.Memory) }
+    ensures cause { ExitCause (texts words.now) (S.left input.old) (live_of (D.seen disk))
+        (record {
+          disk = (D.seen disk).faults;
+          disk_now = (D.seen result.disk).faults;
+          source = S.faults input.old;
+          source_now = S.faults input.new;
+          sink = K.faults out.old;
+          sink_now = K.faults out.new;
+        }) result.status }
+    ensures complete { IsAccepted (texts words.now) (S.left input.old) (live_of (D.seen disk))
+        (record {
+          disk = (D.seen disk).faults;
+          disk_now = (D.seen result.disk).faults;
+          source = S.faults input.old;
+          source_now = S.faults input.new;
+          sink = K.faults out.old;
+          sink_now = K.faults out.new;
+        }) → (result.status ≡ Exit.Done) ⊎ (result.status ≡ Exit.Memory) }
 {
     let _ = guids;
     match plan(alloc, words) {

@@ -123,8 +123,10 @@ fn scripts_are_run_and_printed(rt: HostRuntime) -> Result<(), Fail> {
 fn the_image_has_the_file(rt: HostRuntime) -> Result<(), Fail> {
     let alloc = rt.alloc();
     let left = run_on(alloc, &EXEC, new_image(alloc)?, ONE_PUT, NONE)?;
-    let table =
-        b"\x4d\0\0\0\0\0\0\0\x02\0\0\0\0\0\0\0\0\0\0\0\0\0\0\0\x01\0\0\0\x01\0\0\0\0\0\0\0\x01\0a\0\0\x03\0\0\0\0\0\0\0\x01\0\0\0\0\0\0\0\x01\0\0\0\0\0\0\0\0\0\0\0\x01\0\0\0\0\0\0\0\x06\0\0\0\0\0\0\0";
+    let table = b"\x4d\0\0\0\0\0\0\0\
+        \x02\0\0\0\0\0\0\0\0\0\0\0\0\0\0\0\x01\0\0\0\
+        \x01\0\0\0\0\0\0\0\x01\0a\0\0\x03\0\0\0\0\0\0\0\x01\0\0\0\0\0\0\0\
+        \x01\0\0\0\0\0\0\0\0\0\0\0\x01\0\0\0\0\0\0\0\x06\0\0\0\0\0\0\0";
     assert_eq!(rt; left.image.get(8192..8192 + 85), Some(table.as_slice()));
     assert_eq!(rt; left.image.get(24576..24581), Some(b"abc\0\0".as_slice()));
     Ok(())
