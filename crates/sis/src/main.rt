@@ -22,6 +22,12 @@ fn words_of(alloc: Global, arguments: &[String]) -> Result<Vec<&str>, AllocError
     Ok(words)
 }
 
+// The arguments after the program's own name.
+fn arguments(rt: &HostRuntime) -> io::Result<Vec<String>> {
+    let arguments = env::args(rt)?.skip(1).collect(rt.alloc())?;
+    Ok(arguments)
+}
+
 fn open_image(rt: &HostRuntime, path: &str) -> io::Result<ImageFile<File>> {
     let file = OpenOptions::new().read(true).write(true).open(rt, path)?;
     ImageFile::new(file)
@@ -37,7 +43,13 @@ fn ended(rt: &HostRuntime, exit: &Exit) -> ExitCode {
 
 fn main(rt: HostRuntime) -> io::Result<ExitCode> {
     let alloc = rt.alloc();
-    let arguments = env::args(&rt)?.skip(1).collect::<Vec<String>>(alloc)?;
+    let arguments = match arguments(&rt) {
+        Ok(arguments) => arguments,
+        Err(error) if error.kind() == io::ErrorKind::OutOfMemory => {
+            return Ok(ended(&rt, &Exit::Memory));
+        }
+        Err(error) => return Err(error),
+    };
     let Ok(words) = words_of(alloc, &arguments) else {
         return Ok(ended(&rt, &Exit::Memory));
     };
