@@ -1,6 +1,6 @@
 -- What a whole run leaves, from what its parts do.
 use Rattle.std.proofs.Common.{◌≡◌, ◌⊎◌, inl, inr, ℕ, ◌≤◌, false, List, [], map, Option, None, Some, Ok, Err, refl, sym, ap, subst, ◌∙◌, arith}
-use Rattle.std.specs.Prelude.{IfSome}
+use Rattle.std.specs.Prelude.{IfSome, ◌≢◌}
 use Rattle.std.specs.Option.{option_map}
 use Rattle.sis_disk.specs.Record.{Seen, Rose, live_of}
 use Rattle.sis_disk.specs.Streams.{Appended, AppendedFront}
@@ -24,9 +24,11 @@ use Rattle.sis_volume.specs.Opening as opening_words
 use Rattle.sis_volume.specs.Opening.{Caused}
 use Rattle.sis_volume.specs.declared.fault.OpenFault.{OpenFault}
 use Rattle.sis_volume.specs.declared.fault.OpenFault.TheVariants as opening
-use Rattle.sis_cli.specs.Exit.{risen, exit_of_script, exit_of_opening}
+use Rattle.sis_cli.specs.Exit.{risen, exit_of_usage, exit_of_script, exit_of_opening}
+use Rattle.sis_cli.specs.declared.usage.UsageFault.{UsageFault}
+use Rattle.sis_cli.specs.declared.usage.UsageFault.TheVariants as usage
 use Rattle.sis_cli.specs.Session.{HasRun}
-use Rattle.sis_cli.specs.Run.{AreWords, IsScript, IsImage, Counts, ExitCause, IsAccepted, RunsScript, AreAnswered, HoldsFilesAfter, CauseOfEnd, LeavesRun, Serves}
+use Rattle.sis_cli.specs.Run.{AreWords, IsScript, IsImage, Counts, ExitCause, IsAccepted, RunsScript, HasCalls, AreAnswered, HoldsFilesAfter, CauseOfEnd, LeavesRun, Serves}
 use Rattle.sis_cli.specs.declared.exit.Exit.{Exit}
 use Rattle.sis_cli.specs.declared.exit.Exit.TheVariants as exit
 use Rattle.sis_cli.proofs.Runs.{later_answers}
@@ -47,7 +49,7 @@ leaves_ran old new now before lines entries n held held_now status is_before is_
     record {
       legal = ran.legal;
       order = inr ran.order;
-      done_order = λ done. ran.order;
+      all = λ other. ran.order;
       replies = later_answers old.table.layout _ _ entries (λ h. rose_from n.disk n.disk_now old.seen.faults new.seen.faults (omega arith) faults h) ran.answered;
       printed_all = all;
       front = front;
@@ -66,7 +68,7 @@ leaves_none l lines n held live_now status entries is none =
     (subst (λ (es : List Entry). LeavesRun l lines n held held live_now exit.Memory es) (sym none) (record {
       legal = tt;
       order = inl refl;
-      done_order = λ done. absurd cc;
+      all = λ other. absurd (other refl);
       replies = tt;
       printed_all = λ done. absurd cc;
       front = AppendedFront-none held [];
@@ -82,15 +84,28 @@ script_runs bytes parts entries is order = record {
   calls = λ client. ap (commands_of client) order ∙ commands-exec_order client parts.lines;
 }
 
-some_runs : (left : Option (List ℕ)) (parts : Parts) (entries : List Entry) → IfSome left (λ bytes. script_of bytes ≡ Ok parts) → map line_of entries ≡ exec_order parts.lines → IfSome left (λ bytes. RunsScript bytes entries)
-some_runs None parts entries is order = tt
-some_runs (Some bytes) parts entries is order = script_runs bytes parts entries is order
+either_runs : (bytes : List ℕ) (parts : Parts) (entries : List Entry) → script_of bytes ≡ Ok parts → (entries ≡ []) ⊎ (map line_of entries ≡ exec_order parts.lines)
+    → RunsScript bytes entries ⊎ (entries ≡ [])
+either_runs bytes parts entries is (inl none) = inr none
+either_runs bytes parts entries is (inr order) = inl (script_runs bytes parts entries is order)
 
-either_runs : (left : Option (List ℕ)) (parts : Parts) (entries : List Entry) → IfSome left (λ bytes. script_of bytes ≡ Ok parts) → (entries ≡ []) ⊎ (map line_of entries ≡ exec_order parts.lines)
-    → IfSome left (λ bytes. (entries ≡ []) ⊎ RunsScript bytes entries)
-either_runs None parts entries is order = tt
-either_runs (Some bytes) parts entries is (inl none) = inl none
-either_runs (Some bytes) parts entries is (inr order) = inr (script_runs bytes parts entries is order)
+-- the calls of a run whose lines ran, or that had no memory for them
+calls_ran : (bytes : List ℕ) (parts : Parts) (m : Counts) (status : Exit) (unopened : Type 0) (entries : List Entry) → script_of bytes ≡ Ok parts → CauseOfEnd m status
+    → (entries ≡ []) ⊎ (map line_of entries ≡ exec_order parts.lines) → (status ≢ exit.Memory → map line_of entries ≡ exec_order parts.lines) → HasCalls status unopened bytes entries
+calls_ran bytes parts m exit.Done unopened entries is cause either all = script_runs bytes parts entries is (all (λ e. cc))
+calls_ran bytes parts m exit.Sink unopened entries is cause either all = script_runs bytes parts entries is (all (λ e. cc))
+calls_ran bytes parts m (exit.Disk count) unopened entries is cause either all = inl (script_runs bytes parts entries is (all (λ e. cc)))
+calls_ran bytes parts m exit.Memory unopened entries is cause either all = either_runs bytes parts entries is either
+calls_ran bytes parts m (exit.Usage at kind) unopened entries is cause either all = absurd cause
+calls_ran bytes parts m (exit.Script line kind) unopened entries is cause either all = absurd cause
+calls_ran bytes parts m (exit.ScriptLimit kind count) unopened entries is cause either all = absurd cause
+calls_ran bytes parts m (exit.Image at kind) unopened entries is cause either all = absurd cause
+calls_ran bytes parts m exit.Source unopened entries is cause either all = absurd cause
+
+some_calls : (left : Option (List ℕ)) (parts : Parts) (m : Counts) (status : Exit) (unopened : Type 0) (entries : List Entry) → IfSome left (λ bytes. script_of bytes ≡ Ok parts) → CauseOfEnd m status
+    → (entries ≡ []) ⊎ (map line_of entries ≡ exec_order parts.lines) → (status ≢ exit.Memory → map line_of entries ≡ exec_order parts.lines) → IfSome left (λ bytes. HasCalls status unopened bytes entries)
+some_calls None parts m status unopened entries is cause either all = tt
+some_calls (Some bytes) parts m status unopened entries is cause either all = calls_ran bytes parts m status unopened entries is cause either all
 
 is_script : (left : Option (List ℕ)) (parts : Parts) → IfSome left (λ bytes. script_of bytes ≡ Ok parts) → IsScript left
 is_script None parts is = tt
@@ -117,15 +132,14 @@ cause_ran words left live n m (exit.Image at kind) a b c d are says shows h = ab
 cause_ran words left live n m exit.Source a b c d are says shows h = absurd h
 
 -- a script that was read, on an image that was opened
-pub serves_ran : (left live : Option (List ℕ)) (v : VolumeTable) (parts : Parts) (n m : Counts) (held held_now live_now : Option (List ℕ)) (status : Exit) (entries : List Entry)
+pub serves_ran : (left live : Option (List ℕ)) (unopened : Type 0) (v : VolumeTable) (parts : Parts) (n m : Counts) (held held_now live_now : Option (List ℕ)) (status : Exit) (entries : List Entry)
     → m.disk ≡ n.disk → m.disk_now ≡ n.disk_now → m.sink ≡ n.sink → m.sink_now ≡ n.sink_now
     → IfSome left (λ bytes. script_of bytes ≡ Ok parts) → v ≡ empty_table v.layout → IfSome live (λ x. image_at x ≡ Ok v)
     → LeavesRun v.layout parts.lines m held held_now live_now status entries
-    → Serves left live n held held_now live_now status entries
-serves_ran left live v parts n m held held_now live_now status entries a b c d says new shows leaves = record {
+    → Serves left live unopened n held held_now live_now status entries
+serves_ran left live unopened v parts n m held held_now live_now status entries a b c d says new shows leaves = record {
   legal = leaves.legal;
-  calls = either_runs left parts entries says leaves.order;
-  done_calls = λ done. some_runs left parts entries says (leaves.done_order done);
+  calls = some_calls left parts m status unopened entries says leaves.cause leaves.order leaves.all;
   answers = record {
     layout = v.layout;
     image = λ some. new_image live v new shows;
@@ -137,8 +151,9 @@ serves_ran left live v parts n m held held_now live_now status entries a b c d s
   cause = λ words are. cause_ran words left live n m status a b c d are (is_script left parts says) (is_image live v shows) leaves.cause;
 }
 
-abbrev no_entries : List Entry
-no_entries = []
+some_all : (o : Option (List ℕ)) (P : List ℕ → Type 0) → ((bytes : List ℕ) → P bytes) → IfSome o P
+some_all None P all = tt
+some_all (Some bytes) P all = all bytes
 
 any_layout : Layout
 any_layout = record { total = 16; area = 1; log = 0; letter = 67 }
@@ -149,23 +164,19 @@ answers_none live disk disk_now entries none =
     subst (λ (es : List Entry). AreAnswered live disk disk_now es) (sym none) (record { layout = any_layout; image = λ some. absurd (some refl); replies = tt })
 
 -- a run that ended before its first line
-pub serves_none : (left live : Option (List ℕ)) (n : Counts) (held live_now : Option (List ℕ)) (status : Exit) (entries : List Entry) → entries ≡ [] → (status ≡ exit.Done → ⊥)
-    → ((words : List (List ℕ)) → AreWords words → ExitCause words left live n status) → Serves left live n held held live_now status entries
-serves_none left live n held live_now status entries none not_done cause =
-    subst (λ (es : List Entry). Serves left live n held held live_now status es) (sym none) (record {
+pub serves_none : (left live : Option (List ℕ)) (unopened : Type 0) (n : Counts) (held live_now : Option (List ℕ)) (status : Exit) (entries : List Entry) → entries ≡ [] → (status ≡ exit.Done → ⊥)
+    → ((bytes : List ℕ) → HasCalls status unopened bytes []) → ((words : List (List ℕ)) → AreWords words → ExitCause words left live n status)
+    → Serves left live unopened n held held live_now status entries
+serves_none left live unopened n held live_now status entries none not_done calls cause =
+    subst (λ (es : List Entry). Serves left live unopened n held held live_now status es) (sym none) (record {
       legal = tt;
-      calls = by_left left;
-      done_calls = λ done. absurd (not_done done);
+      calls = some_all left (λ bytes. HasCalls status unopened bytes []) calls;
       answers = answers_none live n.disk n.disk_now [] refl;
       printed_all = λ done. absurd (not_done done);
       front = AppendedFront-none held [];
       image = λ done. absurd (not_done done);
       cause = cause;
     })
-  where
-    by_left : (o : Option (List ℕ)) → IfSome o (λ bytes. (no_entries ≡ []) ⊎ RunsScript bytes no_entries)
-    by_left None = tt
-    by_left (Some bytes) = inl refl
 
 -- why a script was not read
 pub script_cause : (words : List (List ℕ)) (left live : Option (List ℕ)) (n : Counts) (fault : ScriptFault) → AreWords words
@@ -193,19 +204,43 @@ not_done_opening count opening.Disk status e done = cc
 not_done_opening count (opening.Image at kind) status e done = cc
 not_done_opening count opening.Memory status e done = cc
 
+-- no call was made where the script was not read, or the image was not opened
+no_calls_script : (fault : ScriptFault) (status : Exit) (unopened : Type 0) (bytes : List ℕ) → status ≡ exit_of_script fault → HasCalls status unopened bytes []
+no_calls_script script.Source status unopened bytes is = subst (λ (s : Exit). HasCalls s unopened bytes []) (sym is) refl
+no_calls_script (script.Line line kind) status unopened bytes is = subst (λ (s : Exit). HasCalls s unopened bytes []) (sym is) refl
+no_calls_script (script.Limit kind count) status unopened bytes is = subst (λ (s : Exit). HasCalls s unopened bytes []) (sym is) refl
+no_calls_script script.Memory status unopened bytes is = subst (λ (s : Exit). HasCalls s unopened bytes []) (sym is) (inr refl)
+
+no_calls_opening : (count : ℕ) (fault : OpenFault) (status : Exit) (unopened : Type 0) (bytes : List ℕ) → unopened → status ≡ exit_of_opening count fault → HasCalls status unopened bytes []
+no_calls_opening count opening.Disk status unopened bytes only is = subst (λ (s : Exit). HasCalls s unopened bytes []) (sym is) (inr (refl, only))
+no_calls_opening count (opening.Image at kind) status unopened bytes only is = subst (λ (s : Exit). HasCalls s unopened bytes []) (sym is) refl
+no_calls_opening count opening.Memory status unopened bytes only is = subst (λ (s : Exit). HasCalls s unopened bytes []) (sym is) (inr refl)
+
+no_calls_usage : (fault : UsageFault) (unopened : Type 0) (bytes : List ℕ) → HasCalls (exit_of_usage fault) unopened bytes []
+no_calls_usage (usage.Word at kind) unopened bytes = refl
+no_calls_usage usage.Memory unopened bytes = inr refl
+
+-- no call was made where the words were no command
+pub calls_usage : (left : Option (List ℕ)) (fault : UsageFault) (status : Exit) (unopened : Type 0) (entries : List Entry) → entries ≡ [] → status ≡ exit_of_usage fault
+    → IfSome left (λ bytes. HasCalls status unopened bytes entries)
+calls_usage left fault status unopened entries none is =
+    subst (λ (es : List Entry). IfSome left (λ bytes. HasCalls status unopened bytes es)) (sym none)
+    (subst (λ (s : Exit). IfSome left (λ bytes. HasCalls s unopened bytes [])) (sym is)
+    (some_all left (λ bytes. HasCalls (exit_of_usage fault) unopened bytes []) (no_calls_usage fault unopened)))
+
 -- a script that was not read
-pub serves_no_script : (left live : Option (List ℕ)) (n : Counts) (held live_now : Option (List ℕ)) (fault : ScriptFault) (status : Exit) (entries : List Entry) → entries ≡ [] → status ≡ exit_of_script fault
-    → IfSome left (λ bytes. FailsAs fault (script_of bytes)) → (fault ≡ script.Source → Rose n.source n.source_now) → Serves left live n held held live_now status entries
-serves_no_script left live n held live_now fault status entries none is says rose =
-    serves_none left live n held live_now status entries none (not_done_script fault status is)
+pub serves_no_script : (left live : Option (List ℕ)) (unopened : Type 0) (n : Counts) (held live_now : Option (List ℕ)) (fault : ScriptFault) (status : Exit) (entries : List Entry) → entries ≡ [] → status ≡ exit_of_script fault
+    → IfSome left (λ bytes. FailsAs fault (script_of bytes)) → (fault ≡ script.Source → Rose n.source n.source_now) → Serves left live unopened n held held live_now status entries
+serves_no_script left live unopened n held live_now fault status entries none is says rose =
+    serves_none left live unopened n held live_now status entries none (not_done_script fault status is) (λ bytes. no_calls_script fault status unopened bytes is)
     (λ words are. subst (ExitCause words left live n) (sym is) (script_cause words left live n fault are says rose))
 
 -- an image that was not opened
-pub serves_no_image : (left live : Option (List ℕ)) (n : Counts) (held live_now : Option (List ℕ)) (parts : Parts) (count : ℕ) (fault : OpenFault) (status : Exit) (entries : List Entry) → entries ≡ [] → status ≡ exit_of_opening count fault
-    → IfSome left (λ bytes. script_of bytes ≡ Ok parts) → IfSome live (λ m. opening_words.FailsAs fault (image_at m)) → Caused fault n.disk n.disk_now → count ≡ risen n.disk n.disk_now
-    → Serves left live n held held live_now status entries
-serves_no_image left live n held live_now parts count fault status entries none is says fails rose risen_is =
-    serves_none left live n held live_now status entries none (not_done_opening count fault status is)
+pub serves_no_image : (left live : Option (List ℕ)) (unopened : Type 0) (n : Counts) (held live_now : Option (List ℕ)) (parts : Parts) (count : ℕ) (fault : OpenFault) (status : Exit) (entries : List Entry) → entries ≡ [] → status ≡ exit_of_opening count fault
+    → IfSome left (λ bytes. script_of bytes ≡ Ok parts) → IfSome live (λ m. opening_words.FailsAs fault (image_at m)) → Caused fault n.disk n.disk_now → count ≡ risen n.disk n.disk_now → unopened
+    → Serves left live unopened n held held live_now status entries
+serves_no_image left live unopened n held live_now parts count fault status entries none is says fails rose risen_is only =
+    serves_none left live unopened n held live_now status entries none (not_done_opening count fault status is) (λ bytes. no_calls_opening count fault status unopened bytes only is)
     (λ words are. subst (ExitCause words left live n) (sym is) (opening_cause words left live n parts count fault are says fails rose risen_is))
 
 some_says : (left : Option (List ℕ)) (bytes : List ℕ) (P : List ℕ → Type 0) → left ≡ Some bytes → IfSome left P → P bytes

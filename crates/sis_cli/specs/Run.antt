@@ -77,6 +77,15 @@ pub record RunsScript (bytes : List ℕ) (entries : List Entry) : Type 0 where
   pub order : map line_of entries ≡ exec_order parts.lines
   pub calls : (client : ℕ) → calls_of entries client ≡ expected_calls parts.lines client
 
+-- Which entries a run has that ended so: the script's calls, or none where it ended before the first
+-- of them. `unopened` says that the disk was only read, as where opening failed.
+abbrev pub HasCalls : Exit → Type 0 → List ℕ → List Entry → Type 0
+HasCalls exit.Done unopened bytes entries = RunsScript bytes entries
+HasCalls exit.Sink unopened bytes entries = RunsScript bytes entries
+HasCalls (exit.Disk count) unopened bytes entries = RunsScript bytes entries ⊎ ((entries ≡ []) × unopened)
+HasCalls exit.Memory unopened bytes entries = RunsScript bytes entries ⊎ (entries ≡ [])
+HasCalls _ unopened bytes entries = entries ≡ []
+
 -- the replies of entries, on the image without files that the disk held
 pub record AreAnswered (live : Option (List ℕ)) (disk disk_now : ℕ) (entries : List Entry) : Type 0 where
   pub layout : Layout
@@ -100,7 +109,7 @@ CauseOfEnd n _ = ⊥
 pub record LeavesRun (l : Layout) (lines : List Line) (n : Counts) (held held_now live_now : Option (List ℕ)) (status : Exit) (entries : List Entry) : Type 0 where
   pub legal : IsLegal no_files entries
   pub order : (entries ≡ []) ⊎ (map line_of entries ≡ exec_order lines)
-  pub done_order : status ≡ exit.Done → map line_of entries ≡ exec_order lines
+  pub all : status ≢ exit.Memory → map line_of entries ≡ exec_order lines
   pub replies : AllByRecursion (λ e. IsAnsweredOnNew l (Rose n.disk n.disk_now) e.command e.reply) entries
   pub printed_all : status ≡ exit.Done → Appended held held_now (printed entries)
   pub front : AppendedFront held held_now (printed entries)
@@ -108,10 +117,9 @@ pub record LeavesRun (l : Layout) (lines : List Line) (n : Counts) (held held_no
   pub cause : CauseOfEnd n status
 
 -- what a run leaves whose words are a command
-pub record Serves (left live : Option (List ℕ)) (n : Counts) (held held_now live_now : Option (List ℕ)) (status : Exit) (entries : List Entry) : Type 0 where
+pub record Serves (left live : Option (List ℕ)) (unopened : Type 0) (n : Counts) (held held_now live_now : Option (List ℕ)) (status : Exit) (entries : List Entry) : Type 0 where
   pub legal : IsLegal no_files entries
-  pub calls : IfSome left (λ bytes. (entries ≡ []) ⊎ RunsScript bytes entries)
-  pub done_calls : status ≡ exit.Done → IfSome left (λ bytes. RunsScript bytes entries)
+  pub calls : IfSome left (λ bytes. HasCalls status unopened bytes entries)
   pub answers : AreAnswered live n.disk n.disk_now entries
   pub printed_all : status ≡ exit.Done → Appended held held_now (printed entries)
   pub front : AppendedFront held held_now (printed entries)

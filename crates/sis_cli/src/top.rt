@@ -8,8 +8,9 @@ ghost use Rattle.sis_model.specs.Order.{line_of, exec_order};
 ghost use Rattle.sis_table.specs.Volume.{empty_table};
 ghost use Rattle.sis_script.specs.Printed.{printed};
 ghost use Rattle.sis_script.specs.Script.{IsPut};
+ghost use Rattle.sis_volume.specs.Opening.{OnlyReads};
 ghost use Rattle.sis_cli.specs.Words.{texts};
-ghost use Rattle.sis_cli.specs.Run.{ExitCause, CauseOfEnd, LeavesRun, Serves, IsAccepted, RunsScript, AreAnswered, HoldsFilesAfter};
+ghost use Rattle.sis_cli.specs.Run.{ExitCause, CauseOfEnd, LeavesRun, Serves, IsAccepted, HasCalls, AreAnswered, HoldsFilesAfter};
 
 use crate::exit::{fault_count, open_exit, print_exit, script_exit};
 use crate::session::run_lines;
@@ -113,14 +114,15 @@ fn exec<D: Disk, S: Source, K: Sink>(
     input: &mut S,
     out: &mut K,
 ) -> Outcome<D>
-    ensures { Serves (S.left input.old) (live_of (D.seen disk)) (record {
-      disk = (D.seen disk).faults;
-      disk_now = (D.seen result.disk).faults;
-      source = S.faults input.old;
-      source_now = S.faults input.new;
-      sink = K.faults out.old;
-      sink_now = K.faults out.new;
-    }) (K.held out.old) (K.held out.new) (live_of (D.seen result.disk)) result.status
+    ensures { Serves (S.left input.old) (live_of (D.seen disk))
+        (OnlyReads 3 (D.seen disk) (D.seen result.disk)) (record {
+          disk = (D.seen disk).faults;
+          disk_now = (D.seen result.disk).faults;
+          source = S.faults input.old;
+          source_now = S.faults input.new;
+          sink = K.faults out.old;
+          sink_now = K.faults out.new;
+        }) (K.held out.old) (K.held out.new) (live_of (D.seen result.disk)) result.status
         result.history.entries }
 {
     let lines = match read_script(alloc, input) {
@@ -153,11 +155,9 @@ pub fn run<D: Disk, S: Source, K: Sink, G: Guids>(
     // The answers are those of one legal history of separate files.
     ensures legal { IsLegal no_files result.history.entries }
 
-    // It has the script's calls, each once, in order; or none, where the run ended before.
-    ensures calls { IfSome (S.left input.old) (λ bytes. (result.history.entries ≡ [])
-        ⊎ RunsScript bytes result.history.entries) }
-    ensures done_calls { result.status ≡ Exit.Done
-        → IfSome (S.left input.old) (λ bytes. RunsScript bytes result.history.entries) }
+    // It has the script's calls, each once, in order; or none, where the run ended before the first.
+    ensures calls { IfSome (S.left input.old) (λ bytes. HasCalls result.status
+        (OnlyReads 3 (D.seen disk) (D.seen result.disk)) bytes result.history.entries) }
 
     // Each hindrance has its cause, and Full comes exactly where the blocks don't suffice.
     ensures answers { AreAnswered (live_of (D.seen disk)) (D.seen disk).faults
