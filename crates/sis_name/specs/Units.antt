@@ -1,9 +1,9 @@
 -- Units of UTF-16: which may stand in a name, their order, and the text that they are.
-use Rattle.std.specs.Prelude.{ℕ, ◌+◌, ◌==◌, Bool, false, ◌&&◌, ◌||◌, if◌then◌else◌, List, [], ◌∷◌, nat_lt, nat_le, nat_eq, flat_map, codes, Option, None, Some}
+use Rattle.std.specs.Prelude.{ℕ, ◌+◌, ◌==◌, Bool, true, false, ◌&&◌, ◌||◌, if◌then◌else◌, List, [], ◌∷◌, nat_lt, nat_le, nat_eq, flat_map, codes, Option, None, Some}
 use Rattle.std.specs.Str.{chars, encode_utf8_all}
 use Rattle.std.specs.Char.Escape.{encode_utf16}
 use Rattle.std.specs.Char.Utf16.{utf16_lossy_chars, is_high_surrogate, is_low_surrogate}
-use Rattle.std.specs.Ordering.{nat_cmp}
+use Rattle.std.specs.Ordering.{nat_cmp, is_lt}
 use Rattle.std.specs.declared.cmp.Ordering.{Ordering}
 use Rattle.std.specs.Cmp.Lexicographic.{slice_cmp, lists_total}
 use Rattle.std.specs.Cmp.{IsTotalOrder, nat_cmp_total}
@@ -48,6 +48,11 @@ name_total = lists_total nat_cmp_total
 -- and only equal names tie
 pub name_ties : IsAntisymmetric name_cmp
 name_ties = slice_cmp-IsAntisymmetric nat_cmp-IsAntisymmetric
+
+-- the name is greater than this one; each is, without one
+abbrev pub is_after : Option (List ℕ) → List ℕ → Bool
+is_after None name = true
+is_after (Some least) name = is_lt (name_cmp least name)
 
 -- what the names of store files begin with
 abbrev pub store_prefix : List ℕ
