@@ -1,0 +1,6 @@
+pub mod NameFields
+pub mod NameUnits
+pub mod Ranges
+pub mod ReadLemmas
+pub mod Spelled
+pub mod Steps
