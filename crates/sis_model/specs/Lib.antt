@@ -1,4 +1,5 @@
 pub mod Answer
+pub mod Copy
 pub mod History
 pub mod Order
 pub mod Recorded

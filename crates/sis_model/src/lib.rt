@@ -7,7 +7,7 @@ ghost use Rattle.sis_model.specs.declared.command.Command.{Command as ACommand};
 ghost use Rattle.sis_model.specs.declared.history.Entry.{Entry as AnEntry};
 ghost use Rattle.sis_model.specs.declared.history.Line.{Line as ALine};
 ghost use Rattle.sis_model.specs.declared.reply.Reply.{Reply as AReply};
-ghost use Rattle.sis_model.specs.Answer.{MayReply, world_with};
+ghost use Rattle.sis_model.specs.Answer.{MayReply, world_with, kind_of, IsDone};
 ghost use Rattle.sis_model.specs.History.{IsLegal, world_after};
 ghost use Rattle.sis_model.specs.Order.{commands_of, exec_order, expected_calls};
 ghost use Rattle.sis_model.specs.World.{World};
@@ -15,14 +15,19 @@ ghost use Rattle.sis_model.specs.World.{World};
 mod bytes;
 mod command;
 mod history;
+mod names;
 mod reply;
 #[cfg(test)]
 mod tests;
+mod unsettled;
 
 pub use bytes::Bytes;
 pub use command::Command;
 pub use history::{Entry, History, Line};
-pub use reply::{Hindrance, Reply};
+pub use names::NameList;
+pub use reply::{Fate, GrovelReport, Hindrance, Kind, LimitKind, Reply};
+pub use sis_request::{Field, RequestFault};
+pub use unsettled::{UnsettledFile, UnsettledList};
 
 /// In the order of a run each client makes its own commands, and then its end.
 pub fn exec_order_is_expected()
@@ -45,10 +50,9 @@ pub fn legal_history_goes_on()
         ≡ world_with (world_after w es) e.client e.command e.reply }
 {}
 
-/// A reply other than `Done` and `Ended` leaves the world.
+/// A reply that isn't of a command that was carried out leaves the world.
 pub fn refused_or_hindered_leaves_the_world()
     ensures { (w : World) (client : ℕ) (command : ACommand) (reply : AReply)
-        → ¬ (reply ≡ Reply.Done)
-        → ((closed : ℕ) → ¬ (reply ≡ Reply.Ended closed))
+        → ¬ (kind_of reply ≡ IsDone)
         → world_with w client command reply ≡ w }
 {}

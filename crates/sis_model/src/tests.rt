@@ -1,5 +1,7 @@
 //! That each call can succeed.
-use crate::{Bytes, Command, Entry, Hindrance, History, Reply};
+use crate::{
+    Bytes, Command, Entry, Hindrance, History, NameList, Reply, UnsettledFile, UnsettledList,
+};
 use sis_name::Name;
 use std::alloc::AllocError;
 use std::test::Fail;
@@ -27,7 +29,24 @@ fn a_history_has_the_entries_that_were_added(rt: HostRuntime) -> Result<(), Fail
         answered: 2,
     });
     assert_eq!(rt; history.as_slice().len(), 1);
-    assert_eq!(rt; history.as_slice()[0].reply, Reply::Done);
+    assert!(rt; matches!(history.as_slice()[0].reply, Reply::Done));
+    Ok(())
+}
+
+#[test]
+fn lists_have_what_was_added(rt: HostRuntime) -> Result<(), Fail> {
+    let mut names = NameList::new(rt.alloc());
+    names.push(Name::from_text(rt.alloc(), "a")?)?;
+    names.push(Name::from_text(rt.alloc(), "b")?)?;
+    assert_eq!(rt; names.as_slice().len(), 2);
+
+    let mut files = UnsettledList::new(rt.alloc());
+    files.push(UnsettledFile {
+        name: Name::from_text(rt.alloc(), "a")?,
+        left: 3,
+        cause: Hindrance::Disk,
+    })?;
+    assert_eq!(rt; files.as_slice()[0].left, 3);
     Ok(())
 }
 
