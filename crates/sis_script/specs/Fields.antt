@@ -1,10 +1,12 @@
 -- The fields of a line. A reading of a field gives its value and what is left of the line.
-use Rattle.std.specs.Prelude.{ℕ, ◌+◌, ◌^◌, ◌==◌, Bool, false, not, ◌&&◌, if◌then◌else◌, List, [], ◌∷◌, length, take, drop, nat_lt, slice_index, position, unwrap_or, Option, Some, None, Result, Ok, Err}
+use Rattle.std.specs.Prelude.{ℕ, ◌+◌, ◌^◌, ◌==◌, Bool, true, false, not, ◌&&◌, if◌then◌else◌, List, [], ◌∷◌, length, take, drop, nat_lt, nat_eq, codes, slice_index, position, unwrap_or, Option, Some, None, Result, Ok, Err}
 use Rattle.std.specs.Str.{is_utf8}
 use Rattle.std.specs.Char.{is_ascii_digit}
+use Rattle.std.specs.Cmp.Lexicographic.{pointwise}
+use Rattle.std.specs.Int.{from_be_bytes, w32}
 use Rattle.std.specs.List.{list_all}
 use Rattle.std.specs.Str.Parse.{digits_value}
-use Rattle.hex.specs.Hex.{decode_of}
+use Rattle.hex.specs.Hex.{decode_of, decode_sized}
 use Rattle.sis_name.specs.Name.{name_fault}
 use Rattle.sis_name.specs.Units.{text_units}
 use Rattle.sis_name.specs.declared.fault.NameFault.{NameFault}
@@ -37,6 +39,18 @@ word_len text = unwrap_or (position is_space text) (length text)
 -- these bytes, and the rest from there on
 abbrev pub word_at : List ℕ → List ℕ × List ℕ
 word_at text = (take (word_len text) text, drop (word_len text) text)
+
+-- a field that is one word, and what the word says
+unfoldable pub field_of : {A : Type 0} → (List ℕ → Result A LineKind) → List ℕ
+    → Result (A × List ℕ) LineKind
+field_of read text = do
+  start ← field_at text
+  value ← read (word_at start).0
+  Ok (value, (word_at start).1)
+
+-- the word is this text
+abbrev pub is_word : List ℕ → List ℕ → Bool
+is_word word text = pointwise nat_eq word text
 
 -- digits, at least one, and no zero before others
 abbrev pub is_plain : List ℕ → Bool
@@ -91,8 +105,38 @@ hex_of word =
     else Err kind.Hex
 
 -- a field that is bytes in hex
-unfoldable pub hex_at : List ℕ → Result (List ℕ × List ℕ) LineKind
-hex_at text = do
-  start ← field_at text
-  bytes ← hex_of (word_at start).0
-  Ok (bytes, (word_at start).1)
+abbrev pub hex_at : List ℕ → Result (List ℕ × List ℕ) LineKind
+hex_at text = field_of hex_of text
+
+-- the number that a word spells, if it is one below 2^64
+abbrev pub number_in : Option ℕ → Result ℕ LineKind
+number_in None = Err kind.Number
+number_in (Some n) = Ok n
+
+-- a field that is a number
+abbrev pub number_at : List ℕ → Result (ℕ × List ℕ) LineKind
+number_at text = field_of (λ word. number_in (number_of word)) text
+
+-- whether an open may write: `w`, or `r` where it only reads
+abbrev pub mode_of : List ℕ → Result Bool LineKind
+mode_of word =
+    if is_word word (codes "r") then Ok false
+    else if is_word word (codes "w") then Ok true
+    else Err kind.Mode
+
+-- a field that is the mode of an open
+abbrev pub mode_at : List ℕ → Result (Bool × List ℕ) LineKind
+mode_at text = field_of mode_of text
+
+-- four bytes as one number, the first byte the greatest
+abbrev pub code_of_decoded : {E : Type 0} → Result (List ℕ) E → Result ℕ LineKind
+code_of_decoded (Ok bytes) = Ok (from_be_bytes w32 bytes)
+code_of_decoded (Err e) = Err kind.Code
+
+-- the code that eight hex digits spell
+abbrev pub code_of : List ℕ → Result ℕ LineKind
+code_of word = code_of_decoded (decode_sized word 4)
+
+-- a field that is a control's code
+abbrev pub code_at : List ℕ → Result (ℕ × List ℕ) LineKind
+code_at text = field_of code_of text

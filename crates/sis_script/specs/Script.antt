@@ -1,14 +1,14 @@
 -- Which bytes are a script and what it says, and what is the first thing wrong with others.
-use Rattle.std.specs.Prelude.{◌≡◌, ℕ, ◌+◌, ◌≤◌, ◌==◌, Bool, not, ◌&&◌, if◌then◌else◌, List, [], ◌∷◌, ◌++◌, length, nat_lt, nat_le, nat_eq, codes, Option, Some, None, Result, Ok, Err, ⊤}
+use Rattle.std.specs.Prelude.{◌≡◌, ℕ, ◌+◌, ◌≤◌, ◌==◌, Bool, not, ◌&&◌, if◌then◌else◌, List, [], ◌∷◌, ◌++◌, length, nat_lt, nat_le, Option, Some, None, Result, Ok, Err, ⊤}
 use Rattle.std.specs.Str.{is_utf8}
 use Rattle.std.specs.Str.Lines.{lines}
 use Rattle.std.specs.List.{All, slice_split}
-use Rattle.std.specs.Cmp.Lexicographic.{pointwise}
 use Rattle.sis_model.specs.declared.command.Command.{Command}
 use Rattle.sis_model.specs.declared.command.Command.TheVariants as command
 use Rattle.sis_model.specs.declared.history.Line.{Line}
 use Rattle.sis_script.specs.Steps.{◌>>=◌}
-use Rattle.sis_script.specs.Fields.{is_space, field_at, end_at, word_at, number_of, name_at, hex_at}
+use Rattle.sis_script.specs.Fields.{is_space, field_at, word_at, number_of}
+use Rattle.sis_script.specs.Verbs.{verb_at, fields_at}
 use Rattle.sis_script.specs.declared.limits.TheConstants.{MOST_BYTES, MOST_LINES, LAST_CLIENT}
 use Rattle.sis_script.specs.declared.faults.LineKind.{LineKind}
 use Rattle.sis_script.specs.declared.faults.LineKind.TheVariants as kind
@@ -50,28 +50,12 @@ turns_at text = do
   start ← field_at text
   clients_of (slice_split is_space start)
 
--- the word is this text
-abbrev pub is_word : List ℕ → List ℕ → Bool
-is_word word text = pointwise nat_eq word text
-
--- `put NAME HEX`
-unfoldable pub put_at : List ℕ → Result Command LineKind
-put_at text = do
-  name ← name_at text
-  bytes ← hex_at name.1
-  rest ← end_at bytes.1
-  Ok (command.Put name.0 bytes.0)
-
--- the command of a verb, from what stands behind it
-abbrev pub verb_at : List ℕ → List ℕ → Result Command LineKind
-verb_at verb text = if is_word verb (codes "put") then put_at text else Err kind.Verb
-
 -- a line of a client: the client, one space, a verb, and its fields
 unfoldable pub command_at : List ℕ → Result Line LineKind
 command_at text = do
   client ← client_of (word_at text).0
-  verb ← field_at (word_at text).1
-  command ← verb_at (word_at verb).0 (word_at verb).1
+  verb ← verb_at (word_at text).1
+  command ← fields_at verb.0 verb.1
   Ok (record { client = client; command = command })
 
 -- what a skipped line says
@@ -153,13 +137,16 @@ IfJudged (Err (fault.Limit limit.Lines count)) P = P
 abbrev pub IsClient : ℕ → Type 0
 IsClient client = (1 ≤ client) × (client ≤ LAST_CLIENT)
 
--- the command is a `put`
-abbrev pub IsPut : Command → Type 0
-IsPut (command.Put name bytes) = ⊤
-IsPut command.End = ⊥
+-- a command whose verb is carried out, so that a script may have it
+abbrev pub IsBuilt : Command → Type 0
+IsBuilt (command.Put name bytes) = ⊤
+IsBuilt (command.Stat name) = ⊤
+IsBuilt (command.List after) = ⊤
+IsBuilt command.Space = ⊤
+IsBuilt _ = ⊥
 
 -- what each script keeps: its clients, its commands and its turns are ones that a script may have
 pub record AreAllowed (parts : Parts) : Type 0 where
   pub clients : All (λ l. IsClient l.client) parts.lines
-  pub puts : All (λ l. IsPut l.command) parts.lines
+  pub built : All (λ l. IsBuilt l.command) parts.lines
   pub turns : All IsClient parts.schedule

@@ -2,16 +2,15 @@
 ghost use Rattle.std.specs.Prelude.{◌≡◌, IfOk};
 ghost use Rattle.std.specs.List.{All};
 ghost use Rattle.sis_script.specs.Steps.{Gives};
-ghost use Rattle.sis_script.specs.Script.{IsClient, IsPut, AreAllowed, client_of, turns_at, line_at};
-ghost use Rattle.sis_script.specs.Script.{put_at, verb_at, command_at, item_of};
+ghost use Rattle.sis_script.specs.Script.{IsClient, IsBuilt, AreAllowed};
+ghost use Rattle.sis_script.specs.Script.{client_of, turns_at, command_at, line_at, item_of};
 ghost use Rattle.sis_script.specs.Views.{parts_in};
 
 use crate::faults::{LineFault, LineKind};
-use crate::fields::{
-    field_start, hex_field, line_end, name_field, number, split_once, text_of, word_of,
-};
+use crate::fields::{field_start, number, split_once, text_of, word_of};
 use crate::limits::LAST_CLIENT;
-use sis_model::{Command, Line};
+use crate::verbs::{fields, verb_field};
+use sis_model::Line;
 use std::alloc::Global;
 
 /// What a line of a script says.
@@ -67,37 +66,16 @@ fn turns(alloc: Global, text: &[u8]) -> Result<Vec<u8>, LineFault>
     Ok(clients)
 }
 
-#[tactic(auto, unfolding(crate::specs::Script::put_at))]
-fn put(alloc: Global, text: &[u8]) -> Result<Command, LineFault>
-    ensures value { Gives (λ command. command) result (put_at text.now) }
-    ensures allowed { IfOk result (λ command. IsPut command) }
-{
-    let (name, rest) = name_field(alloc, text)?;
-    let (bytes, rest) = hex_field(alloc, rest)?;
-    line_end(rest)?;
-    Ok(Command::Put { name, bytes })
-}
-
-fn command(alloc: Global, verb: &[u8], text: &[u8]) -> Result<Command, LineFault>
-    ensures value { Gives (λ command. command) result (verb_at verb.now text.now) }
-    ensures allowed { IfOk result (λ command. IsPut command) }
-{
-    match verb {
-        b"put" => put(alloc, text),
-        _ => Err(LineFault::Wrong(LineKind::Verb)),
-    }
-}
-
 #[tactic(auto, unfolding(crate::specs::Script::command_at))]
 fn command_line(alloc: Global, text: &[u8]) -> Result<Line, LineFault>
     ensures value { Gives (λ line. line) result (command_at text.now) }
     ensures client { IfOk result (λ line. IsClient line.client) }
-    ensures command { IfOk result (λ line. IsPut line.command) }
+    ensures built { IfOk result (λ line. IsBuilt line.command) }
 {
     let (word, rest) = word_of(text);
     let client = client(word)?;
-    let (verb, rest) = word_of(field_start(rest)?);
-    let command = command(alloc, verb, rest)?;
+    let (verb, rest) = verb_field(rest)?;
+    let command = fields(alloc, verb, rest)?;
     Ok(Line { client, command })
 }
 

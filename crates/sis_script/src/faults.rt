@@ -8,12 +8,18 @@ pub enum LineKind {
     Encoding,
     /// A client is no number that a client may have.
     Client,
-    /// There is no such verb.
+    /// There is no such verb, or none that is carried out yet.
     Verb,
     /// A name is not in quotation marks, or not one that a file may have.
     Name,
     /// Bytes are neither `-` nor pairs of hex digits.
     Hex,
+    /// A number is not below 2^64, or not spelled by digits without a leading zero.
+    Number,
+    /// The mode of an open is neither `r` nor `w`.
+    Mode,
+    /// A control's code is not eight hex digits.
+    Code,
     /// A field is missing, or something follows the last one.
     Fields,
 }

@@ -8,9 +8,12 @@ ghost use Rattle.std.specs.Str.{is_utf8};
 ghost use Rattle.std.specs.Str.Parse.{digits_value};
 ghost use Rattle.sis_script.specs.Steps.{Gives};
 ghost use Rattle.sis_script.specs.Fields.{field_at, end_at, word_at, quoted_at};
-ghost use Rattle.sis_script.specs.Fields.{is_plain, number_of, name_of, name_at, hex_of, hex_at};
+ghost use Rattle.sis_script.specs.Fields.{is_plain, number_of, number_in, number_at};
+ghost use Rattle.sis_script.specs.Fields.{name_of, name_at, hex_of, hex_at};
+ghost use Rattle.sis_script.specs.Fields.{mode_of, mode_at, code_of, code_at};
 
 use crate::faults::{LineFault, LineKind};
+use hex::FromHex;
 use sis_model::Bytes;
 use sis_name::{Name, NameFault};
 use std::alloc::Global;
@@ -168,12 +171,67 @@ fn bytes_of_word(alloc: Global, word: &[u8]) -> Result<Bytes, LineFault>
     }
 }
 
-#[tactic(auto, unfolding(crate::specs::Fields::hex_at))]
+#[tactic(auto, unfolding(crate::specs::Fields::field_of))]
 pub(crate) fn hex_field(alloc: Global, text: &[u8]) -> Result<(Bytes, &[u8]), LineFault>
     ensures { Gives (λ found. (found.0, found.1.now)) result (hex_at text.now) }
 {
-    let start = field_start(text)?;
-    let (word, rest) = word_of(start);
+    let (word, rest) = word_of(field_start(text)?);
     let bytes = bytes_of_word(alloc, word)?;
     Ok((bytes, rest))
+}
+
+fn number_of_word(word: &[u8]) -> Result<u64, LineFault>
+    ensures { Gives (λ number. number) result (number_in (number_of word.now)) }
+{
+    match number(word) {
+        Some(number) => Ok(number),
+        None => Err(LineFault::Wrong(LineKind::Number)),
+    }
+}
+
+#[tactic(auto, unfolding(crate::specs::Fields::field_of))]
+pub(crate) fn number_field(text: &[u8]) -> Result<(u64, &[u8]), LineFault>
+    ensures { Gives (λ found. (found.0, found.1.now)) result (number_at text.now) }
+{
+    let (word, rest) = word_of(field_start(text)?);
+    let number = number_of_word(word)?;
+    Ok((number, rest))
+}
+
+fn mode_of_word(word: &[u8]) -> Result<bool, LineFault>
+    ensures { Gives (λ write. write) result (mode_of word.now) }
+{
+    match word {
+        b"r" => Ok(false),
+        b"w" => Ok(true),
+        _ => Err(LineFault::Wrong(LineKind::Mode)),
+    }
+}
+
+// Whether an open may write.
+#[tactic(auto, unfolding(crate::specs::Fields::field_of))]
+pub(crate) fn mode_field(text: &[u8]) -> Result<(bool, &[u8]), LineFault>
+    ensures { Gives (λ found. (found.0, found.1.now)) result (mode_at text.now) }
+{
+    let (word, rest) = word_of(field_start(text)?);
+    let write = mode_of_word(word)?;
+    Ok((write, rest))
+}
+
+fn code_of_word(word: &[u8]) -> Result<u32, LineFault>
+    ensures { Gives (λ code. code) result (code_of word.now) }
+{
+    match <[u8; 4]>::from_hex(word) {
+        Ok(bytes) => Ok(u32::from_be_bytes(bytes)),
+        Err(_) => Err(LineFault::Wrong(LineKind::Code)),
+    }
+}
+
+#[tactic(auto, unfolding(crate::specs::Fields::field_of))]
+pub(crate) fn code_field(text: &[u8]) -> Result<(u32, &[u8]), LineFault>
+    ensures { Gives (λ found. (found.0, found.1.now)) result (code_at text.now) }
+{
+    let (word, rest) = word_of(field_start(text)?);
+    let code = code_of_word(word)?;
+    Ok((code, rest))
 }

@@ -1,7 +1,7 @@
 //! Scripts read from a source of bytes, and histories printed to a sink.
 //!
-//! The whole syntax of a script stands in `specs/Script.antt` and `specs/Fields.antt`, and each
-//! printed line in `specs/Printed.antt`.
+//! The whole syntax of a script stands in `specs/Script.antt`, `specs/Verbs.antt` and
+//! `specs/Fields.antt`, and each printed line in `specs/Printed.antt` and `specs/Details.antt`.
 #![tactic(auto)]
 
 mod commands;
@@ -9,9 +9,12 @@ mod faults;
 mod fields;
 mod limits;
 mod printing;
+#[cfg(test)]
+mod printing_tests;
 mod reading;
 #[cfg(test)]
 mod tests;
+mod verbs;
 
 pub use faults::{LineKind, PrintFault, ScriptFault, ScriptLimit};
 pub use limits::{LAST_CLIENT, MOST_BYTES, MOST_LINES};

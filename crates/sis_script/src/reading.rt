@@ -5,7 +5,7 @@ ghost use Rattle.std.specs.List.{All};
 ghost use Rattle.std.specs.Str.Lines.{lines, strip_carriage_return};
 ghost use Rattle.sis_disk.specs.Record.{Rose};
 ghost use Rattle.sis_script.specs.Script.{script_of, parts_from, joined, Says};
-ghost use Rattle.sis_script.specs.Script.{IfJudged, AreAllowed, IsClient, IsPut};
+ghost use Rattle.sis_script.specs.Script.{IfJudged, AreAllowed, IsClient, IsBuilt};
 ghost use Rattle.sis_script.specs.Views.{parts_of, parts_in};
 ghost use Rattle.sis_script.specs.Taken.{HasRead, TakesAtMost};
 
@@ -148,7 +148,7 @@ pub fn read_script<S: Source>(alloc: Global, source: &mut S) -> Result<Script, S
     // What each script keeps, whether the source tells or not.
     ensures few { IfOk result (λ script. length script.lines.items ≤ MOST_LINES) }
     ensures clients { IfOk result (λ script. All (λ l. IsClient l.client) script.lines.items) }
-    ensures puts { IfOk result (λ script. All (λ l. IsPut l.command) script.lines.items) }
+    ensures built { IfOk result (λ script. All (λ l. IsBuilt l.command) script.lines.items) }
     ensures turns { IfOk result (λ script. All IsClient script.schedule.items) }
 
     ensures cause { IsErrOf result ScriptFault.Source

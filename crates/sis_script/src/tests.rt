@@ -1,10 +1,11 @@
-//! Worked rows, each public call once, and a source and a sink that fail in mid-stream.
+//! Worked rows, and a source that fails in mid-stream.
 ghost use Rattle.std.specs.Prelude.{◌≡◌, ◌≤◌, None, length};
 
-use crate::{LineKind, PrintFault, Script, ScriptFault, ScriptLimit, print_history, read_script};
-use sis_disk::{Sink, SinkFault, Source, SourceFault};
-use sis_model::{Bytes, Command, Entry, Hindrance, History, Reply};
-use sis_name::Name;
+use crate::faults::LineFault;
+use crate::verbs::{Verb, fields};
+use crate::{LineKind, Script, ScriptFault, ScriptLimit, read_script};
+use sis_disk::{Source, SourceFault};
+use sis_model::Command;
 use std::alloc::{AllocError, Global};
 use std::test::Fail;
 
@@ -46,30 +47,6 @@ fn source_of(alloc: Global, bytes: &[u8], piece: usize) -> Result<Pieces, AllocE
     })
 }
 
-// A sink with room for so many more bytes.
-#[derive(Drop)]
-struct Page {
-    bytes: Vec<u8>,
-    room: usize,
-    faults: u64,
-}
-
-impl Sink for Page {
-    ghost held = { λ s. None };
-
-    ghost faults = { λ s. s.faults };
-
-    fn write(&mut self, bytes: &[u8]) -> Result<(), SinkFault> {
-        let count = bytes.len().min(self.room);
-        self.room -= count;
-        if self.bytes.extend_from_slice(&bytes[..count]).is_ok() && count == bytes.len() {
-            return Ok(());
-        }
-        self.faults = self.faults.saturating_add(1);
-        Err(SinkFault)
-    }
-}
-
 fn read(alloc: Global, text: &[u8]) -> Result<Result<Script, ScriptFault>, AllocError> {
     let mut source = source_of(alloc, text, 3)?;
     Ok(read_script(alloc, &mut source))
@@ -77,7 +54,7 @@ fn read(alloc: Global, text: &[u8]) -> Result<Result<Script, ScriptFault>, Alloc
 
 #[test]
 fn the_first_wrong_field_is_named(rt: HostRuntime) -> Result<(), Fail> {
-    let rows: [(&[u8], LineKind); 32] = [
+    let rows: [(&[u8], LineKind); 48] = [
         (b"\xff", LineKind::Encoding),
         (b"#\xff", LineKind::Encoding),
         (b"0 put \"a\" \xff", LineKind::Encoding),
@@ -94,22 +71,38 @@ fn the_first_wrong_field_is_named(rt: HostRuntime) -> Result<(), Fail> {
         (b"1 ", LineKind::Verb),
         (b"1  put \"a\" 61", LineKind::Verb),
         (b"1 Put \"a\" 61", LineKind::Verb),
+        (b"1 put\"a\" 61", LineKind::Verb),
+        (b"1 space\r", LineKind::Verb),
         (b"1 end", LineKind::Verb),
+        (b"1 sync", LineKind::Verb),
+        (b"1 open a x", LineKind::Verb),
         (b"1 put ", LineKind::Name),
         (b"1 put a 61", LineKind::Name),
         (b"1 put \"a", LineKind::Name),
         (b"1 put \"\"61", LineKind::Name),
         (b"1 put \"\t\" 61", LineKind::Name),
+        (b"1 stat a\"b\"", LineKind::Name),
+        (b"1 list ", LineKind::Name),
+        (b"1 list  \"a\"", LineKind::Name),
         (b"1 put \"a\" ", LineKind::Hex),
         (b"1 put \"a\" 616", LineKind::Hex),
         (b"1 put \"a\" 6g", LineKind::Hex),
+        (b"1 put \"a\" -61", LineKind::Hex),
         (b"1 put \"a\" 61\r", LineKind::Hex),
         (b"1", LineKind::Fields),
         (b"1 put", LineKind::Fields),
         (b"1 put \"a\"61", LineKind::Fields),
         (b"1 put \"a\" 61 ", LineKind::Fields),
+        (b"1 stat", LineKind::Fields),
+        (b"1 stat \"b\" x", LineKind::Fields),
+        (b"1 stat \"b\"\r", LineKind::Fields),
+        (b"1 list \"a\" \"b\"", LineKind::Fields),
+        (b"1 list \"a\"\"b\"", LineKind::Fields),
+        (b"1 space ", LineKind::Fields),
+        (b"1 space x", LineKind::Fields),
         (b"@", LineKind::Fields),
         (b"@1", LineKind::Fields),
+        (b"@\t1", LineKind::Fields),
     ];
     for (text, kind) in rows {
         let fault = read(rt.alloc(), text)?.err();
@@ -123,48 +116,184 @@ fn the_first_wrong_field_is_named(rt: HostRuntime) -> Result<(), Fail> {
 }
 
 #[test]
-fn a_script_comes_in_any_pieces(rt: HostRuntime) -> Result<(), Fail> {
-    let alloc = rt.alloc();
-    for piece in [1, 2, 100] {
-        let mut source = source_of(alloc, b"1 put \"a\" 616263", piece)?;
-        let script = read_script(alloc, &mut source)?;
-        assert_eq!(rt; script.lines.len(), 1);
-        assert_eq!(rt; script.lines[0].client, 1);
-        match &script.lines[0].command {
-            Command::Put { name, bytes } => {
-                assert_eq!(rt; name.to_text(alloc)?.as_str(), "a");
-                assert_eq!(rt; bytes.as_slice(), b"abc".as_slice());
-            }
-            Command::End => assert!(rt; false, "no put"),
-        }
+fn verbs_that_come_later_have_their_fields(rt: HostRuntime) -> Result<(), Fail> {
+    let rows: [(Verb, &[u8], LineKind); 20] = [
+        (Verb::Open, b" \"a\"", LineKind::Fields),
+        (Verb::Open, b" \"a\" rw", LineKind::Mode),
+        (Verb::Open, b" \"a\" W", LineKind::Mode),
+        (Verb::Open, b" \"a\" r ", LineKind::Fields),
+        (Verb::Read, b" 1 2", LineKind::Fields),
+        (Verb::Read, b" 01 2 3", LineKind::Number),
+        (Verb::Read, b" 1 18446744073709551616 3", LineKind::Number),
+        (Verb::Read, b" 1  3", LineKind::Number),
+        (Verb::Read, b" 1 2 3 4", LineKind::Fields),
+        (Verb::Write, b" 1 2 6", LineKind::Hex),
+        (Verb::Write, b" 1 x 6", LineKind::Number),
+        (Verb::Size, b" 1 +1", LineKind::Number),
+        (Verb::Close, b" ", LineKind::Number),
+        (Verb::Rename, b" \"a\"", LineKind::Fields),
+        (Verb::Rename, b" \"a\" b", LineKind::Name),
+        (Verb::Remove, b" \"a\" \"b\"", LineKind::Fields),
+        (Verb::Fsctl, b" 0009010 -", LineKind::Code),
+        (Verb::Fsctl, b" 0x090100 -", LineKind::Code),
+        (Verb::Fsctl, b" 00090100", LineKind::Fields),
+        (Verb::Grovel, b" ", LineKind::Fields),
+    ];
+    for (verb, text, kind) in rows {
+        let fault = fields(rt.alloc(), verb, text).err();
+        assert_eq!(rt; fault, Some(LineFault::Wrong(kind)), "{verb:?} {text:?}");
     }
     Ok(())
 }
 
 #[test]
-fn other_lines_and_the_line_limit(rt: HostRuntime) -> Result<(), Fail> {
+fn numbers_codes_and_modes_have_their_values(rt: HostRuntime) -> Result<(), Fail> {
     let alloc = rt.alloc();
-    for (text, turns) in [
-        (b"".as_slice(), 0),
-        (b"\r\n".as_slice(), 0),
-        (b"# 2 put".as_slice(), 0),
-        (b"@ 1 1\n".as_slice(), 2),
-    ] {
-        let script = read(alloc, text)??;
-        assert_eq!(rt; script.lines.len(), 0, "{text:?}");
-        assert_eq!(rt; script.schedule.len(), turns, "{text:?}");
+    let most = fields(alloc, Verb::Read, b" 1 18446744073709551615 0");
+    assert!(rt;
+        matches!(
+            most,
+            Ok(Command::Read {
+                number: 1,
+                at: u64::MAX,
+                len: 0
+            })
+        )
+    );
+    let write = fields(alloc, Verb::Open, b" \"a\" w");
+    assert!(rt;
+        matches!(
+            write,
+            Ok(Command::Open {
+                name: _,
+                write: true
+            })
+        )
+    );
+    let read = fields(alloc, Verb::Open, b" \"a\" r");
+    assert!(rt;
+        matches!(
+            read,
+            Ok(Command::Open {
+                name: _,
+                write: false
+            })
+        )
+    );
+    let copy = fields(alloc, Verb::Fsctl, b" 80090aBc -");
+    assert!(rt;
+        matches!(
+            copy,
+            Ok(Command::Fsctl {
+                code: 0x80090abc,
+                bytes: _
+            })
+        )
+    );
+    Ok(())
+}
+
+// Whether this is a `put` of the name `a` with these bytes.
+fn puts(alloc: Global, command: &Command, bytes: &[u8]) -> Result<bool, Fail> {
+    match command {
+        Command::Put { name, bytes: all } => {
+            let text = name.to_text(alloc)?;
+            Ok(text.as_str() == "a" && all.as_slice() == bytes)
+        }
+        _ => Ok(false),
     }
+}
+
+const SCRIPT: &[u8] = b"# all verbs there are\r
+1 put \"a\" 61fF00\r
+
+1 put \"a\" -
+@ 1 1
+1 stat \"a\"
+1 list\r
+@ 1
+1 list \"a\"
+1 space";
+
+#[test]
+fn a_script_comes_in_any_pieces(rt: HostRuntime) -> Result<(), Fail> {
+    let alloc = rt.alloc();
+    for piece in [1, 2, 7, 1000] {
+        let mut source = source_of(alloc, SCRIPT, piece)?;
+        let script = read_script(alloc, &mut source)?;
+        assert_eq!(rt; script.schedule.as_slice(), [1, 1, 1].as_slice());
+        assert_eq!(rt; script.lines.len(), 6);
+        let [full, empty, stat, all, after, space] = script.lines.as_slice() else {
+            return Err(Fail::new("not six lines"));
+        };
+        assert!(rt; puts(alloc, &full.command, b"a\xff\0")?);
+        assert!(rt; puts(alloc, &empty.command, b"")?);
+        assert!(rt; matches!(stat.command, Command::Stat { .. }));
+        assert!(rt; matches!(all.command, Command::List { after: None }));
+        assert!(rt; matches!(after.command, Command::List { after: Some(_) }));
+        assert!(rt; matches!(space.command, Command::Space));
+    }
+    Ok(())
+}
+
+// So many skipped lines, and then this.
+fn behind_skipped(alloc: Global, count: usize, text: &[u8]) -> Result<Vec<u8>, AllocError> {
+    let mut all = Vec::new(alloc);
+    for line in 0..count {
+        all.extend_from_slice(if line % 2 == 0 {
+            b"\r\n".as_slice()
+        } else {
+            b"#\n"
+        })?;
+    }
+    all.extend_from_slice(text)?;
+    Ok(all)
+}
+
+#[test]
+fn skipped_lines_count_and_the_first_fault_decides(rt: HostRuntime) -> Result<(), Fail> {
+    let alloc = rt.alloc();
     let many = ScriptFault::Limit {
         kind: ScriptLimit::Lines,
-        count: 2,
+        count: 4097,
     };
-    let early = ScriptFault::Line {
-        line: 1,
+    let fields = ScriptFault::Line {
+        line: 2,
+        kind: LineKind::Fields,
+    };
+    let late = ScriptFault::Line {
+        line: 4096,
         kind: LineKind::Verb,
     };
-    assert_eq!(rt; read(alloc, b"#\n\n")?.err(), Some(many));
-    assert_eq!(rt; read(alloc, b"\n1 get")?.err(), Some(many));
-    assert_eq!(rt; read(alloc, b"1 get\n\n")?.err(), Some(early));
+    let rows: [(usize, &[u8], Option<ScriptFault>); 7] = [
+        (0, b"", None),
+        (0, b"1 stat \"a\"\r\n1 stat \"b\" x", Some(fields)),
+        (4095, b"1 list", None),
+        (4095, b"1 list\n", None),
+        (4096, b"1 list", Some(many)),
+        (4096, b"\xff", Some(many)),
+        (4095, b"1 get\n1 list", Some(late)),
+    ];
+    for (count, text, fault) in rows {
+        let all = behind_skipped(alloc, count, text)?;
+        assert_eq!(rt; read(alloc, &all)?.err(), fault, "{count} {text:?}");
+    }
+    Ok(())
+}
+
+#[test]
+fn the_greatest_length_is_found_before_any_line(rt: HostRuntime) -> Result<(), Fail> {
+    let alloc = rt.alloc();
+    let long = ScriptFault::Limit {
+        kind: ScriptLimit::Bytes,
+        count: 16_777_217,
+    };
+    for (len, fault) in [(16_777_216, None), (16_777_217, Some(long))] {
+        // One remark.
+        let mut source = source_of(alloc, &[], 65_536)?;
+        source.bytes.resize(len, b'#')?;
+        assert_eq!(rt; read_script(alloc, &mut source).err(), fault, "{len}");
+    }
     Ok(())
 }
 
@@ -176,94 +305,6 @@ fn a_source_that_fails_gives_no_script(rt: HostRuntime) -> Result<(), Fail> {
         source.works = works;
         let fault = read_script(alloc, &mut source).err();
         assert_eq!(rt; fault, Some(ScriptFault::Source), "after {works} bytes");
-    }
-    Ok(())
-}
-
-fn add(history: &mut History, alloc: Global, is_end: bool, reply: Reply) -> Result<(), Fail> {
-    history.reserve(1)?;
-    let command = if is_end {
-        Command::End
-    } else {
-        Command::Put {
-            name: Name::from_text(alloc, "a")?,
-            bytes: Bytes::from_vec(Vec::new(alloc)),
-        }
-    };
-    history.push(Entry {
-        client: 1,
-        command,
-        reply,
-        decided: 0,
-        answered: 0,
-    });
-    Ok(())
-}
-
-fn hindered(by: Hindrance) -> Reply {
-    Reply::Hindered { by }
-}
-
-const PRINTED: &str = "1 put 00000000
-1 put C000000D
-1 put C0000022
-1 put C0000035
-1 put C000007F full 11 0 10
-1 put C000007F table 9000 8184
-1 put C0000185 disk
-1 put C0000185 down 7
-1 put C000009A memory
-1 end 00000000 0
-";
-
-fn worked_rows(alloc: Global) -> Result<History, Fail> {
-    let mut history = History::new(alloc);
-    for reply in [
-        Reply::Done,
-        Reply::InvalidParameter,
-        Reply::AccessDenied,
-        Reply::Collision,
-        hindered(Hindrance::Full {
-            needed: 11,
-            used: 0,
-            total: 10,
-        }),
-        hindered(Hindrance::TableFull {
-            needed: 9000,
-            cap: 8184,
-        }),
-        hindered(Hindrance::Disk),
-        hindered(Hindrance::Down { at: 7 }),
-        hindered(Hindrance::Memory),
-    ] {
-        add(&mut history, alloc, false, reply)?;
-    }
-    add(&mut history, alloc, true, Reply::Ended { closed: 0 })?;
-    Ok(history)
-}
-
-#[test]
-fn each_reply_has_its_line(rt: HostRuntime) -> Result<(), Fail> {
-    let alloc = rt.alloc();
-    let history = worked_rows(alloc)?;
-    for (room, answer) in [
-        (1000, Ok(())),
-        (40, Err(PrintFault::Sink)),
-        (0, Err(PrintFault::Sink)),
-    ] {
-        let mut page = Page {
-            bytes: Vec::new(alloc),
-            room,
-            faults: 0,
-        };
-        assert_eq!(rt;
-            print_history(alloc, &history, &mut page),
-            answer,
-            "room {room}"
-        );
-        let printed = PRINTED.as_bytes();
-        let len = room.min(printed.len());
-        assert_eq!(rt; page.bytes.as_slice(), &printed[..len], "room {room}");
     }
     Ok(())
 }
