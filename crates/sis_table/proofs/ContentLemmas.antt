@@ -175,7 +175,7 @@ same_test a b = is_eq-slice_cmp a b ∙ nat_list_eq_equiv.symm a b
 turned_test : (a b : List ℕ) → is_at (name_cmp a) b ≡ is_at (name_cmp b) a
 turned_test a b = is_eq-slice_cmp a b ∙ nat_list_eq_equiv.symm a b ∙ sym (is_eq-slice_cmp b a)
 
-mapped_cond : {X Y : Type 0} (f : X → Y) (b : Bool) (x : X) (o : Option X) → cond b (Some (f x)) (option_map f o) ≡ option_map f (cond b (Some x) o)
+pub mapped_cond : {X Y : Type 0} (f : X → Y) (b : Bool) (x : X) (o : Option X) → cond b (Some (f x)) (option_map f o) ≡ option_map f (cond b (Some x) o)
 mapped_cond f true x o = refl
 mapped_cond f false x o = refl
 
@@ -193,7 +193,7 @@ pub some_cond : {X : Type 0} (b : Bool) (x : X) (o : Option X) → is_some (cond
 some_cond true x o = refl
 some_cond false x o = refl
 
-find_any : {X : Type 0} (test : X → Bool) (xs : List X) → is_some (find test xs) ≡ list_any test xs
+pub find_any : {X : Type 0} (test : X → Bool) (xs : List X) → is_some (find test xs) ≡ list_any test xs
 find_any test [] = refl
 find_any test (x ∷ xs) = some_cond (test x) x (find test xs) ∙ ap (λ (b : Bool). test x || b) (find_any test xs)
 

@@ -1,19 +1,22 @@
 -- A table stays a table through its edits.
-use Rattle.std.proofs.Common.{◌≡◌, ℕ, suc, ◌+◌, ◌^◌, ◌<◌, ◌≤◌, Bool, true, false, cond, ◌||◌, List, [], ◌∷◌, ◌++◌, length, find, get_or, set, not, refl, ap, sym, ◌∙◌, subst, arith, append_assoc, Option, None, Some, eqb, length-append}
+use Rattle.std.proofs.Common.{◌≡◌, ℕ, zero, suc, take, sum_by, ◌+◌, ◌*◌, ◌^◌, ◌<◌, ◌≤◌, Bool, true, false, cond, ◌||◌, List, [], ◌∷◌, ◌++◌, length, find, get_or, set, not, refl, ap, sym, ◌∙◌, subst, arith, append_assoc, Option, None, Some, eqb, length-append}
 use Rattle.std.specs.List.{AllByRecursion, list_any, position, position_or_len}
 use Rattle.std.specs.Prelude.{nat_lt, IsSome}
 use Rattle.std.proofs.lemmas.List.{append-nil}
 use Rattle.std.proofs.lemmas.List.Folds.{list_any-append}
 use Rattle.std.proofs.lemmas.Bool.Decides.{nat_tests}
 use Rattle.sis_disk.specs.declared.layout.Layout.{Layout}
-use Rattle.sis_table.specs.Edits.{edited, edited_by, made, with_node, with_size, with_map, map_edit, MayEdit, MayEditBy, MayMake, MayMap, MaySize, IfThere}
-use Rattle.sis_table.specs.Runs.{block_end, with_run}
-use Rattle.sis_table.specs.Volume.{VolumeTable, IsTable, IsNode, AreNodes, last_id, has_name, same_name, blocks_of, node_with}
+use Rattle.sis_table.specs.Edits.{edited, edited_by, made, with_node, with_size, with_map, MayEdit, MayEditBy, MayMake, MayMap, MaySize, IfThere}
+use Rattle.sis_table.specs.Runs.{block_end}
+use Rattle.sis_table.specs.Volume.{VolumeTable, IsTable, IsNode, AreNodes, last_id, has_name, same_name, blocks_of, node_with, empty_table}
 use Rattle.sis_table.specs.declared.edit.Edit.{Edit}
 use Rattle.sis_table.specs.declared.edit.Edit.TheVariants as edit
 use Rattle.sis_table.specs.declared.node.Node.{Node}
 use Rattle.sis_table.specs.declared.runs.Run.{Run}
-use Rattle.sis_table.proofs.Lengths.{blocks_limit}
+use Rattle.sis_disk.specs.Layout.{IsLayout}
+use Rattle.std.proofs.lemmas.List.Sums.{sum_by_push, sum_by-cons}
+use Rattle.sis_table.specs.Spelling.{IsMeasured, IsShort, node_len}
+use Rattle.sis_table.proofs.Lengths.{blocks_limit, length-spelling, all_short}
 use Rattle.sis_table.proofs.RunLemmas.{AreRuns-with_run, placed-with_run, placed-resized}
 
 abbrev pub has_id : ℕ → Node → Bool
@@ -108,7 +111,7 @@ if_there : (o : Option Node) (P Q : Node → Type 0) → ((n : Node) → P n →
 if_there None P Q f h = h
 if_there (Some n) P Q f h = f n h
 
-IsNode-made : (l : Layout) (v : VolumeTable) (id : ℕ) (name : List ℕ) → MayMake v id name → IsNode l (made id name)
+pub IsNode-made : (l : Layout) (v : VolumeTable) (id : ℕ) (name : List ℕ) → MayMake v id name → IsNode l (made id name)
 IsNode-made l v id name may = record {
   name = may.is_name;
   user = may.user;
@@ -182,28 +185,25 @@ all_nodes l next front [] h = tt
 all_nodes l next front (n ∷ ns) h = (h.3, all_nodes l next (front ++ n ∷ []) ns h.4)
 
 -- the file with this id is the one at the place where the search ends
-pub record FoundAt (l : Layout) (id : ℕ) (nodes : List Node) (at : ℕ) (n : Node) : Type 0 where
+pub record FoundAt (id : ℕ) (nodes : List Node) (at : ℕ) (n : Node) : Type 0 where
   pub found : find (has_id id) nodes ≡ Some n
-  pub limits : IsNode l n
   pub change : (change : Node → Node) → set nodes at (change n) ≡ with_node id change nodes
   pub same : set nodes at n ≡ nodes
 
-found_step : (b : Bool) (l : Layout) (id : ℕ) (m n : Node) (ms : List Node) (at k : ℕ) → (k < length ms → n ≡ get_or ms k n → FoundAt l id ms k n)
-    → has_id id m ≡ b → IsNode l m → at ≡ cond (not b) (1 + k) 0 → at < length (m ∷ ms) → n ≡ get_or (m ∷ ms) at n → FoundAt l id (m ∷ ms) at n
-found_step true l id m n ms at k others e one at_is lt is =
-    subst (λ (a : ℕ). FoundAt l id (m ∷ ms) a n) (sym at_is) (record {
+found_step : (b : Bool) (id : ℕ) (m n : Node) (ms : List Node) (at k : ℕ) → (k < length ms → n ≡ get_or ms k n → FoundAt id ms k n)
+    → has_id id m ≡ b → at ≡ cond (not b) (1 + k) 0 → at < length (m ∷ ms) → n ≡ get_or (m ∷ ms) at n → FoundAt id (m ∷ ms) at n
+found_step true id m n ms at k others e at_is lt is =
+    subst (λ (a : ℕ). FoundAt id (m ∷ ms) a n) (sym at_is) (record {
       found = ap (λ (b : Bool). cond b (Some m) (find (has_id id) ms)) e ∙ ap (λ (x : Node). Some x) (sym here);
-      limits = subst (IsNode l) (sym here) one;
       change = λ f. ap (λ (x : Node). f x ∷ ms) here ∙ sym (ap (λ (b : Bool). cond b (f m ∷ ms) (m ∷ with_node id f ms)) e);
       same = ap (λ (x : Node). x ∷ ms) here;
     })
   where
     here : n ≡ m
     here = subst (λ (a : ℕ). n ≡ get_or (m ∷ ms) a n) at_is is
-found_step false l id m n ms at k others e one at_is lt is =
-    subst (λ (a : ℕ). FoundAt l id (m ∷ ms) a n) (sym next) (record {
+found_step false id m n ms at k others e at_is lt is =
+    subst (λ (a : ℕ). FoundAt id (m ∷ ms) a n) (sym next) (record {
       found = ap (λ (b : Bool). cond b (Some m) (find (has_id id) ms)) e ∙ there.found;
-      limits = there.limits;
       change = λ f. ap (λ (xs : List Node). m ∷ xs) (there.change f) ∙ sym (ap (λ (b : Bool). cond b (f m ∷ ms) (m ∷ with_node id f ms)) e);
       same = ap (λ (xs : List Node). m ∷ xs) there.same;
     })
@@ -211,80 +211,159 @@ found_step false l id m n ms at k others e one at_is lt is =
     next : at ≡ suc k
     next = omega (arith, at_is)
 
-    there : FoundAt l id ms k n
+    there : FoundAt id ms k n
     there = others (omega (arith, next, lt)) (subst (λ (a : ℕ). n ≡ get_or (m ∷ ms) a n) next is)
 
-found_here : (l : Layout) (id : ℕ) (nodes : List Node) (n : Node) → AllByRecursion (IsNode l) nodes
+found_here : (id : ℕ) (nodes : List Node) (n : Node)
     → position_or_len (has_id id) nodes < length nodes → n ≡ get_or nodes (position_or_len (has_id id) nodes) n
-    → FoundAt l id nodes (position_or_len (has_id id) nodes) n
-found_here l id [] n h lt is = absurd (omega (arith, lt))
-found_here l id (m ∷ ms) n h lt is =
-    found_step (has_id id m) l id m n ms (position_or_len (has_id id) (m ∷ ms)) (position_or_len (has_id id) ms) (found_here l id ms n h.1) refl h.0 refl lt is
+    → FoundAt id nodes (position_or_len (has_id id) nodes) n
+found_here id [] n lt is = absurd (omega (arith, lt))
+found_here id (m ∷ ms) n lt is =
+    found_step (has_id id m) id m n ms (position_or_len (has_id id) (m ∷ ms)) (position_or_len (has_id id) ms) (found_here id ms n) refl refl lt is
 
 -- what `position` says where it finds a place
 place_of-position : (k size at : ℕ) (b : Bool) → nat_lt k size ≡ b → cond b (Some k) None ≡ Some at → (k ≡ at) × (k < size)
 place_of-position k size at true e h = (cc, grind (arith, nat_tests))
 place_of-position k size at false e h = cc
 
-pub found_at : (v : VolumeTable) (id at : ℕ) (n : Node) → IsTable v → position (has_id id) v.nodes ≡ Some at → n ≡ get_or v.nodes at n
-    → FoundAt v.layout id v.nodes at n
-found_at v id at n h place is =
-    let p = place_of-position (position_or_len (has_id id) v.nodes) (length v.nodes) at (nat_lt (position_or_len (has_id id) v.nodes) (length v.nodes)) refl place in
-    subst (λ (a : ℕ). FoundAt v.layout id v.nodes a n) p.0
-    (found_here v.layout id v.nodes n (all_nodes v.layout v.next_id [] v.nodes h.nodes) p.1 (subst (λ (a : ℕ). n ≡ get_or v.nodes a n) (sym p.0) is))
+pub found_at : (nodes : List Node) (id at : ℕ) (n : Node) → position (has_id id) nodes ≡ Some at → n ≡ get_or nodes at n
+    → FoundAt id nodes at n
+found_at nodes id at n place is =
+    let p = place_of-position (position_or_len (has_id id) nodes) (length nodes) at (nat_lt (position_or_len (has_id id) nodes) (length nodes)) refl place in
+    subst (λ (a : ℕ). FoundAt id nodes a n) p.0
+    (found_here id nodes n p.1 (subst (λ (a : ℕ). n ≡ get_or nodes a n) (sym p.0) is))
 
 -- a file that is there has a place
-position_found : (id : ℕ) (nodes : List Node) (P : Node → Type 0) → IfThere (find (has_id id) nodes) P → position_or_len (has_id id) nodes < length nodes
-position_found id [] P h = absurd h
-position_found id (m ∷ ms) P h =
-    elim (has_id id m) as (λ b. IfThere (cond b (Some m) (find (has_id id) ms)) P → cond (not b) (1 + position_or_len (has_id id) ms) 0 < length (m ∷ ms)) [
+position_found : (id : ℕ) (nodes : List Node) → IsSome (find (has_id id) nodes) → position_or_len (has_id id) nodes < length nodes
+position_found id [] h = absurd cc
+position_found id (m ∷ ms) h =
+    elim (has_id id m) as (λ b. IsSome (cond b (Some m) (find (has_id id) ms)) → cond (not b) (1 + position_or_len (has_id id) ms) 0 < length (m ∷ ms)) [
       | true ↦ λ g. omega arith
-      | false ↦ λ g. omega (arith, position_found id ms P g)
+      | false ↦ λ g. omega (arith, position_found id ms g)
     ] h
 
-pub position_there : (id : ℕ) (nodes : List Node) (P : Node → Type 0) → IfThere (find (has_id id) nodes) P → IsSome (position (has_id id) nodes)
-position_there id nodes P h =
+pub position_there : (id : ℕ) (nodes : List Node) → IsSome (find (has_id id) nodes) → IsSome (position (has_id id) nodes)
+position_there id nodes h =
     let k = position_or_len (has_id id) nodes in
-    let e : nat_lt k (length nodes) ≡ true = grind (arith, nat_tests, position_found id nodes P h) in
+    let e : nat_lt k (length nodes) ≡ true = grind (arith, nat_tests, position_found id nodes h) in
     subst (λ (b : Bool). IsSome (cond b (Some k) None)) (sym e) refl
 
 -- what is asked of the file that is there is so of the one that was found
-pub asked : (v now : VolumeTable) (id at : ℕ) (n : Node) (P : Layout → Node → Type 0) → v ≡ now → FoundAt v.layout id v.nodes at n
-    → IfThere (node_with now id) (P now.layout) → P v.layout n
-asked v now id at n P same f h =
-    subst (λ o. IfThere o (P v.layout)) f.found (subst (λ (w : VolumeTable). IfThere (node_with w id) (P w.layout)) (sym same) h)
+pub asked : (o : Option Node) (n : Node) (P : Node → Type 0) → o ≡ Some n → IfThere o P → P n
+asked o n P found h = subst (λ (p : Option Node). IfThere p P) found h
 
-pub map_fits : (l : Layout) (n : Node) (r : Run) → MayMap l n r → IsNode l n → block_end r < 2 ^ 64
-map_fits l n r may h = omega (arith, may.placed.block, blocks_limit n.size h.size)
+pub there_is : (o : Option Node) (P : Node → Type 0) → IfThere o P → IsSome o
+there_is None P h = absurd h
+there_is (Some n) P h = refl
 
--- What a method of the table shows: the file at a place is written, and the value at its start was `now`.
-pub set_is_edit : (v now : VolumeTable) (id at : ℕ) (n : Node) (change : Node → Node) → v ≡ now → IsTable v → position (has_id id) v.nodes ≡ Some at
-    → n ≡ get_or v.nodes at n → record v { nodes = set v.nodes at (change n) } ≡ record now { nodes = with_node id change now.nodes }
-set_is_edit v now id at n change same h place is =
-    ap (λ (nodes : List Node). record v { nodes = nodes }) ((found_at v id at n h place is).change change)
-    ∙ ap (λ (w : VolumeTable). record w { nodes = with_node id change w.nodes }) same
+-- the id of a new file is greater than those of the others
+pub rises_make : (v : VolumeTable) (id : ℕ) → IsTable v → v.next_id ≤ id → last_id v.nodes < id
+rises_make v id h le =
+    let low = h.next_low in
+    let below = last_below v.layout v.next_id [] v.nodes (omega arith) h.nodes in
+    omega arith
 
-pub edit_kept : (v now after : VolumeTable) (e : Edit) → v ≡ now → IsTable v → MayEdit now e → after ≡ edited now e → IsTable after
-edit_kept v now after e same h may is = subst IsTable (sym is) (IsTable-edited now e (subst IsTable same h) may)
+-- the file that is there keeps its limits
+limits_there : (l : Layout) (test : Node → Bool) (nodes : List Node) (P : Node → Type 0) → AllByRecursion (IsNode l) nodes → IfThere (find test nodes) P → IfThere (find test nodes) (λ n. IsNode l n × P n)
+limits_there l test [] P all h = absurd h
+limits_there l test (n ∷ ns) P all h =
+    elim (test n) as (λ b. IfThere (cond b (Some n) (find test ns)) P → IfThere (cond b (Some n) (find test ns)) (λ m. IsNode l m × P m)) [
+      | true ↦ λ g. (all.0, g)
+      | false ↦ λ g. limits_there l test ns P all.1 g
+    ] h
 
-pub make_kept : (v now : VolumeTable) (id : ℕ) (name copy : List ℕ) (runs : List Run) (items : List Node) → v ≡ now → IsTable v → MayMake now id name
-    → copy ≡ name → runs ≡ [] → items ≡ v.nodes ++ record { id = id; name = copy; size = 0; version = 1; runs = runs } ∷ []
-    → IsTable (record v { next_id = id + 1; nodes = items })
-make_kept v now id name copy runs items same h may named none is =
-    let node : (units : List ℕ) (rs : List Run) → Node = λ units rs. record { id = id; name = units; size = 0; version = 1; runs = rs } in
-    let items_are : items ≡ v.nodes ++ made id name ∷ [] =
-    is ∙ ap (λ (units : List ℕ). v.nodes ++ node units runs ∷ []) named ∙ ap (λ (rs : List Run). v.nodes ++ node name rs ∷ []) none in
-    edit_kept v now (record v { next_id = id + 1; nodes = items }) (edit.Make id name) same h may
-    (ap (λ (nodes : List Node). record v { next_id = id + 1; nodes = nodes }) items_are ∙ ap (λ (w : VolumeTable). edited w (edit.Make id name)) same)
+there_so : (o : Option Node) (P : Node → Type 0) (Q : Type 0) → ((n : Node) → P n → Q) → IfThere o P → Q
+there_so None P Q f h = absurd h
+there_so (Some n) P Q f h = f n h
 
-pub map_set : (v now : VolumeTable) (id at : ℕ) (n : Node) (r : Run) (runs : List Run) → v ≡ now → IsTable v → position (has_id id) v.nodes ≡ Some at
-    → n ≡ get_or v.nodes at n → runs ≡ with_run n.runs r → record v { nodes = set v.nodes at (record n { runs = runs }) } ≡ edited now (map_edit id r)
-map_set v now id at n r runs same h place is are =
-    ap (λ (rs : List Run). record v { nodes = set v.nodes at (record n { runs = rs }) }) are
-    ∙ set_is_edit v now id at n (with_map r) same h place is
+-- a run that may be mapped ends below the greatest number
+pub map_fits : (v : VolumeTable) (id : ℕ) (r : Run) → IsTable v → IfThere (node_with v id) (λ n. MayMap v.layout n r) → block_end r < 2 ^ 64
+map_fits v id r h may =
+    there_so (node_with v id) (λ n. IsNode v.layout n × MayMap v.layout n r) (block_end r < 2 ^ 64)
+    (λ n both. omega (arith, both.1.placed.block, blocks_limit n.size both.0.size))
+    (limits_there v.layout (has_id id) v.nodes (λ n. MayMap v.layout n r) (all_nodes v.layout v.next_id [] v.nodes h.nodes) may)
 
-pub map_unset : (v now : VolumeTable) (id at : ℕ) (n : Node) (runs : List Run) → v ≡ now → IsTable v → position (has_id id) v.nodes ≡ Some at
-    → n ≡ get_or v.nodes at n → runs ≡ n.runs → record v { nodes = set v.nodes at (record n { runs = runs }) } ≡ now
-map_unset v now id at n runs same h place is are =
-    ap (λ (rs : List Run). record v { nodes = set v.nodes at (record n { runs = rs }) }) are
-    ∙ ap (λ (nodes : List Node). record v { nodes = nodes }) (found_at v id at n h place is).same ∙ same
+-- ---- the length that is kept
+
+pub measured_empty : (l : Layout) (nodes : List Node) → IsLayout l → nodes ≡ [] → IsMeasured (record { layout = l; next_id = 1; greatest = 0; nodes = nodes }) 20
+measured_empty l nodes h none = subst (λ (ns : List Node). IsMeasured (record { layout = l; next_id = 1; greatest = 0; nodes = ns }) 20) (sym none) (record {
+  table = record { layout = h; next_low = omega arith; next_high = omega arith; greatest = omega arith; few = omega arith; nodes = tt };
+  measure = sym (length-spelling (empty_table l));
+})
+
+sum_small : (nodes : List Node) → AllByRecursion IsShort nodes → sum_by node_len nodes ≤ 402653725 * length nodes
+sum_small [] h = omega arith
+sum_small (n ∷ ns) h = omega (arith, sum_small ns h.1, h.0.name, h.0.runs, sum_by-cons node_len n ns)
+
+-- a spelling is short
+pub measured_small : (v : VolumeTable) (len : ℕ) → IsMeasured v len → len ≤ 2 ^ 45
+measured_small v len h =
+    omega (arith, h.measure, length-spelling v, sum_small v.nodes (all_short v.layout v.next_id [] v.nodes h.table.nodes), h.table.few)
+
+pub measured_make : (v now : VolumeTable) (len id : ℕ) (name : List ℕ) (n : Node) (nodes : List Node) → v ≡ now → IsMeasured v len → MayMake now id name → n ≡ made id name → nodes ≡ v.nodes ++ n ∷ []
+    → IsMeasured (record v { next_id = id + 1; nodes = nodes }) (len + node_len n)
+measured_make v now len id name n nodes same h may is are =
+    let made_one : record v { next_id = id + 1; nodes = nodes } ≡ edited v (edit.Make id name) =
+    ap (λ (ns : List Node). record v { next_id = id + 1; nodes = ns }) (are ∙ ap (λ (k : Node). v.nodes ++ k ∷ []) is) in
+    let longer : sum_by node_len nodes ≡ sum_by node_len v.nodes + node_len n = ap (sum_by node_len) are ∙ sum_by_push node_len v.nodes n in
+    record {
+      table = subst IsTable (sym made_one) (IsTable-edited v (edit.Make id name) h.table (subst (λ (w : VolumeTable). MayMake w id name) (sym same) may));
+      measure = omega (arith, h.measure, longer, length-spelling v, length-spelling (record v { next_id = id + 1; nodes = nodes }));
+    }
+
+-- a change of one file by an edit
+pub measured_edit : (v now : VolumeTable) (len more : ℕ) (e : Edit) (nodes : List Node) → v ≡ now → IsMeasured v len → MayEdit now e → record v { nodes = nodes } ≡ edited v e
+    → sum_by node_len nodes ≡ sum_by node_len v.nodes + more → IsMeasured (record v { nodes = nodes }) (len + more)
+measured_edit v now len more e nodes same h may is longer = record {
+  table = subst IsTable (sym is) (IsTable-edited v e h.table (subst (λ (w : VolumeTable). MayEdit w e) (sym same) may));
+  measure = omega (arith, h.measure, longer, length-spelling v, length-spelling (record v { nodes = nodes }));
+}
+
+-- a size changes no length
+sum_resized : (id size : ℕ) (nodes : List Node) → sum_by node_len (with_node id (with_size size) nodes) ≡ sum_by node_len nodes
+sum_resized id size [] = refl
+sum_resized id size (n ∷ ns) =
+    elim (eqb n.id id) as (λ b. sum_by node_len (cond b (with_size size n ∷ ns) (n ∷ with_node id (with_size size) ns)) ≡ sum_by node_len (n ∷ ns)) [
+      | true ↦ sum_by-cons node_len (with_size size n) ns ∙ sym (sum_by-cons node_len n ns)
+      | false ↦ omega (arith, sum_resized id size ns, sum_by-cons node_len n ns, sum_by-cons node_len n (with_node id (with_size size) ns))
+    ]
+
+pub measured_resize : (v now : VolumeTable) (len id size : ℕ) (nodes : List Node) → v ≡ now → IsMeasured v len → IfThere (node_with now id) (λ n. MaySize n size) → nodes ≡ with_node id (with_size size) v.nodes
+    → IsMeasured (record v { nodes = nodes }) len
+measured_resize v now len id size nodes same h may are =
+    let same_len : sum_by node_len nodes ≡ sum_by node_len v.nodes + 0 = omega (arith, ap (sum_by node_len) are, sum_resized id size v.nodes) in
+    let whole = measured_edit v now len 0 (edit.Size id size) nodes same h may (ap (λ (ns : List Node). record v { nodes = ns }) are) same_len in
+    let e : len + 0 ≡ len = omega arith in
+    subst (IsMeasured (record v { nodes = nodes })) e whole
+
+-- ---- a copy
+
+-- each file may stand behind those before it
+pub behind_others : (l : Layout) (next : ℕ) (front nodes : List Node) (i : ℕ) (d : Node) → AreNodes l next front nodes → i < length nodes
+    → (last_id (front ++ take i nodes) < (get_or nodes i d).id) × (list_any (has_name (get_or nodes i d).name) (front ++ take i nodes) ≡ false)
+behind_others l next front [] i d h lt = absurd (omega arith)
+behind_others l next front (n ∷ ns) zero d h lt =
+    subst (λ (f : List Node). (last_id f < n.id) × (list_any (has_name n.name) f ≡ false)) (sym (append-nil front)) (h.0, h.2)
+behind_others l next front (n ∷ ns) (suc i) d h lt =
+    subst (λ (f : List Node). (last_id f < (get_or ns i d).id) × (list_any (has_name (get_or ns i d).name) f ≡ false)) (append_assoc front (n ∷ []) (take i ns))
+    (behind_others l next (front ++ n ∷ []) ns i d h.4 (omega (arith, lt)))
+
+-- so a copy of it may stand behind copies of those
+pub follows : (l : Layout) (next : ℕ) (nodes copies items : List Node) (i : ℕ) (n copy : Node) → AreNodes l next [] nodes → items ≡ nodes → copies ≡ take i nodes → i < length items → n ≡ get_or items i n → copy ≡ n
+    → (last_id copies < copy.id) × (list_any (has_name copy.name) copies ≡ false)
+follows l next nodes copies items i n copy h same are lt is copied =
+    let lt_nodes : i < length nodes = subst (λ (ns : List Node). i < length ns) same lt in
+    let is_here : get_or nodes i n ≡ copy = sym (copied ∙ is ∙ ap (λ (ns : List Node). get_or ns i n) same) in
+    let both = behind_others l next [] nodes i n h lt_nodes in
+    subst (λ (f : List Node). (last_id f < copy.id) × (list_any (has_name copy.name) f ≡ false)) (sym are)
+    (subst (λ (m : Node). (last_id (take i nodes) < m.id) × (list_any (has_name m.name) (take i nodes) ≡ false)) is_here both)
+
+abbrev new_node : ℕ → List ℕ → List Run → Node
+new_node id name runs = record { id = id; name = name; size = 0; version = 1; runs = runs }
+
+-- the same of a file as the code makes it
+pub made_measured : (v now : VolumeTable) (len id : ℕ) (name copy : List ℕ) (runs : List Run) (more : ℕ) (nodes : List Node) → v ≡ now → IsMeasured v len → MayMake now id name → copy ≡ name → runs ≡ []
+    → nodes ≡ v.nodes ++ new_node id copy runs ∷ [] → more ≡ node_len (new_node id copy runs) → IsMeasured (record v { next_id = id + 1; nodes = nodes }) (len + more)
+made_measured v now len id name copy runs more nodes same h may named none are counted =
+    let is : new_node id copy runs ≡ made id name = ap (λ (units : List ℕ). new_node id units runs) named ∙ ap (new_node id name) none in
+    subst (λ (k : ℕ). IsMeasured (record v { next_id = id + 1; nodes = nodes }) (len + k)) (sym counted) (measured_make v now len id name (new_node id copy runs) nodes same h may is are)

@@ -1,6 +1,6 @@
 -- What a write leaves of the bytes elsewhere.
-use Rattle.std.proofs.Common.{◌≡◌, ◌⊎◌, inl, inr, ℕ, ◌+◌, ◌-◌, ◌*◌, ◌<◌, ◌≤◌, Bool, true, false, cond, List, [], ◌∷◌, ◌++◌, length, take, drop, flat_map, slice_index, append-nil, refl, sym, ap, ap₂, ◌∙◌, arith, append_assoc, length-append}
-use Rattle.std.specs.Prelude.{slice_range, ◌==◌, if◌then◌else◌}
+use Rattle.std.proofs.Common.{◌≡◌, ◌⊎◌, inl, inr, ℕ, ◌+◌, ◌-◌, ◌*◌, ◌<◌, ◌≤◌, Bool, true, false, List, [], ◌∷◌, ◌++◌, length, take, drop, flat_map, slice_index, append-nil, refl, sym, ap, ap₂, ◌∙◌, arith, append_assoc, length-append}
+use Rattle.std.specs.Prelude.{slice_range, ◌==◌}
 use Rattle.std.proofs.lemmas.List.{length-take-le, take_at, drop_at, take-append-le, take-take, drop-drop}
 use Rattle.std.proofs.lemmas.Slice.{between_is}
 use Rattle.std.proofs.lemmas.Bool.{cases_lt}
@@ -14,7 +14,7 @@ use Rattle.sis_table.specs.declared.runs.Run.{Run}
 use Rattle.sis_table.specs.Runs.{has_place}
 use Rattle.sis_table.specs.Volume.{VolumeTable, IsTable, is_used}
 use Rattle.sis_table.specs.Content.{block_at, run_bytes, files_of}
-use Rattle.sis_table.specs.Image.{selected_at, area_text, Holds}
+use Rattle.sis_table.specs.Image.{area_start, selected_at, area_text, Holds}
 use Rattle.sis_table.specs.Spelling.{le8, spelling}
 use Rattle.sis_table.proofs.ContentLemmas.{files_of-same, runs_bytes-same}
 use Rattle.sis_table.proofs.Lengths.{length_le8}
@@ -68,8 +68,8 @@ index-laid_out live at bytes i within out = laid_elsewhere at bytes live i withi
 -- a write that leaves the selector's byte leaves the selected area's place
 pub selected_at-laid : (l : Layout) (live : List ℕ) (at : ℕ) (bytes : List ℕ) → at + length bytes ≤ length live → (4097 ≤ at) ⊎ (at + length bytes ≤ 4096)
     → selected_at l (laid live at bytes) ≡ selected_at l live
-selected_at-laid l live at bytes within (inl behind) = ap (λ (b : ℕ). if b == 1 then 4096 * (2 + l.area + l.log) else 8192) (index-laid_out live at bytes 4096 within (inl (omega arith)))
-selected_at-laid l live at bytes within (inr before) = ap (λ (b : ℕ). if b == 1 then 4096 * (2 + l.area + l.log) else 8192) (index-laid_out live at bytes 4096 within (inr before))
+selected_at-laid l live at bytes within (inl behind) = ap (λ (b : ℕ). area_start l (b == 1)) (index-laid_out live at bytes 4096 within (inl (omega arith)))
+selected_at-laid l live at bytes within (inr before) = ap (λ (b : ℕ). area_start l (b == 1)) (index-laid_out live at bytes 4096 within (inr before))
 
 -- the blocks of a run that was written
 pub run_bytes-laid : (live bytes : List ℕ) (first count place : ℕ) → 4096 * place + length bytes ≤ length live → length bytes ≡ 4096 * count
@@ -162,7 +162,7 @@ length-area_text v = omega (arith, length-append (le8 (length (spelling v))) (sp
 -- the selected area ends before the data blocks
 pub selected_at-below : (l : Layout) (m : List ℕ) → selected_at l m + 4096 * l.area ≤ 4096 * first_place l
 selected_at-below l m =
-    elim (slice_index m 4096 == 1) as (λ b. cond b (4096 * (2 + l.area + l.log)) 8192 + 4096 * l.area ≤ 4096 * first_place l) [
+    elim (slice_index m 4096 == 1) as (λ b. area_start l b + 4096 * l.area ≤ 4096 * first_place l) [
       | true ↦ omega arith
       | false ↦ omega arith
     ]

@@ -121,7 +121,7 @@ IsShort-IsNode l n h = record {
   runs = omega (arith, length_runs l (blocks_of n.size) n.runs h.runs h.placed, blocks_limit n.size h.size);
 }
 
-all_short : (l : Layout) (next : ℕ) (front nodes : List Node) → AreNodes l next front nodes → AllByRecursion IsShort nodes
+pub all_short : (l : Layout) (next : ℕ) (front nodes : List Node) → AreNodes l next front nodes → AllByRecursion IsShort nodes
 all_short l next front [] h = tt
 all_short l next front (n ∷ ns) h = (IsShort-IsNode l n h.3, all_short l next (front ++ n ∷ []) ns h.4)
 

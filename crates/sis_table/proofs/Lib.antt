@@ -1,9 +1,12 @@
+pub mod CallerLemmas
 pub mod ContentLemmas
 pub mod EditLemmas
+pub mod FaultPlaces
+pub mod FileLemmas
 pub mod GoodLemmas
 pub mod ImageLemmas
 pub mod Lengths
-pub mod NameIndex
+pub mod NextLemmas
 pub mod PutLemmas
 pub mod ReadingLaws
 pub mod ReadingLoops
@@ -12,3 +15,4 @@ pub mod ReadingNodes
 pub mod ReadingRuns
 pub mod ReadingSteps
 pub mod RunLemmas
+pub mod UndoLemmas

@@ -244,7 +244,7 @@ pub edited_by-layout : (v : VolumeTable) (es : List Edit) → (edited_by v es).l
 edited_by-layout v [] = refl
 edited_by-layout v (e ∷ es) = edited_by-layout (edited v e) es ∙ edited-layout v e
 
-places_between : (l : Layout) (blocks : ℕ) (runs : List Run) (place : ℕ) → AllByRecursion (IsPlaced l blocks) runs → list_any (has_place place) runs ≡ true → (first_place l ≤ place) × (place < l.total)
+pub places_between : (l : Layout) (blocks : ℕ) (runs : List Run) (place : ℕ) → AllByRecursion (IsPlaced l blocks) runs → list_any (has_place place) runs ≡ true → (first_place l ≤ place) × (place < l.total)
 places_between l blocks [] place h e = absurd cc
 places_between l blocks (r ∷ rs) place h e =
     elim (has_place place r) as (λ b. has_place place r ≡ b → (b || list_any (has_place place) rs) ≡ true → (first_place l ≤ place) × (place < l.total)) [

@@ -101,9 +101,6 @@ pub one_table : (a b : VolumeTable) → IsTable a → IsTable b → a.layout ≡
 one_table a b table_a table_b layout text =
     ok_is a b (sym (table_at-only a table_a) ∙ ap (λ (l : Layout). table_at l (spelling a)) layout ∙ ap (table_at b.layout) text ∙ table_at-only b table_b)
 
--- what a reader that gives this has read
-pub is_found : (l : Layout) (bytes : List ℕ) (v : VolumeTable) → IsLayout l → IsBytes bytes → table_at l bytes ≡ Ok v → IsTable v
-is_found l bytes v layout fits e = let found = table_at-found l bytes v layout fits e in found.1
-
+-- what is spelled so, as a reader meets it
 pub only_this : (l : Layout) (bytes : List ℕ) (v : VolumeTable) → IsTable v → v.layout ≡ l → bytes ≡ spelling v → table_at l bytes ≡ Ok v
 only_this l bytes v table layout text = ap (table_at l) text ∙ ap (λ (k : Layout). table_at k (spelling v)) (sym layout) ∙ table_at-only v table

@@ -1,9 +1,9 @@
 -- Runs with one more behind them.
-use Rattle.std.proofs.Common.{◌≡◌, ℕ, zero, suc, ◌+◌, ◌≤◌, Bool, true, false, cond, List, [], ◌∷◌, ◌++◌, length, get_or, set, refl, ap, sym, ◌∙◌, subst, arith}
+use Rattle.std.proofs.Common.{◌≡◌, ℕ, zero, suc, ◌+◌, ◌≤◌, Bool, true, false, cond, List, [], ◌∷◌, ◌++◌, length, take, get_or, set, refl, ap, sym, ◌∙◌, subst, arith}
 use Rattle.std.specs.List.{AllByRecursion}
 use Rattle.std.proofs.lemmas.Bool.Decides.{nat_tests}
 use Rattle.sis_disk.specs.declared.layout.Layout.{Layout}
-use Rattle.sis_table.specs.Runs.{AreRuns, IsApart, MayAppend, with_run, can_join, block_end, place_end, end_of}
+use Rattle.sis_table.specs.Runs.{AreRuns, IsApart, MayAppend, MayCut, with_run, shortened, last_count, can_join, block_end, place_end, end_of}
 use Rattle.sis_table.specs.Volume.{IsPlaced}
 use Rattle.sis_table.specs.declared.runs.Run.{Run}
 
@@ -112,3 +112,66 @@ placed-resized l blocks more (r ∷ s ∷ rs) runs placed le = (
   record { block = omega (arith, le, ends_before r (s ∷ rs) runs); low = placed.0.low; high = placed.0.high },
   placed-resized l blocks more (s ∷ rs) runs.2 placed.1 le,
 )
+
+-- ---- one run less
+
+pub cut_last : (runs : List Run) (kept at count : ℕ) (r : Run) → kept ≡ suc at → kept ≤ length runs → r ≡ get_or (take kept runs) at r
+    → set (take kept runs) at (record { first = r.first; count = count; place = r.place }) ≡ shortened kept count runs
+cut_last runs kept at count r is = subst (λ (k : ℕ). k ≤ length runs → r ≡ get_or (take k runs) at r → set (take k runs) at (record { first = r.first; count = count; place = r.place }) ≡ shortened k count runs) (sym is) (cut_from runs at)
+  where
+    cut_from : (rs : List Run) (n : ℕ) → suc n ≤ length rs → r ≡ get_or (take (suc n) rs) n r → set (take (suc n) rs) n (record { first = r.first; count = count; place = r.place }) ≡ shortened (suc n) count rs
+    cut_from [] n le at_r = absurd (omega arith)
+    cut_from (q ∷ qs) zero le at_r = ap (λ (t : Run). record { first = t.first; count = count; place = t.place } ∷ []) at_r
+    cut_from (q ∷ qs) (suc n) le at_r = ap (λ (rs : List Run). q ∷ rs) (cut_from qs n (omega (arith, le)) at_r)
+
+pub cut_none : (runs : List Run) (kept count : ℕ) → kept ≡ 0 → take kept runs ≡ shortened kept count runs
+cut_none runs kept count none = subst (λ (k : ℕ). take k runs ≡ shortened k count runs) (sym none) (nothing runs)
+  where
+    nothing : (rs : List Run) → take 0 rs ≡ shortened 0 count rs
+    nothing [] = refl
+    nothing (r ∷ rs) = refl
+
+-- runs with one more behind them, cut back
+pub shortened-with_run : (runs : List Run) (x : Run) → shortened (length runs) (last_count runs) (with_run runs x) ≡ runs
+shortened-with_run [] x = refl
+shortened-with_run (r ∷ []) x =
+    elim (can_join r x) as (λ b. shortened 1 r.count (cond b (joined r x ∷ []) (r ∷ x ∷ [])) ≡ r ∷ []) [ true ↦ refl | false ↦ refl ]
+shortened-with_run (r ∷ s ∷ rs) x = ap (λ (l : List Run). r ∷ l) (shortened-with_run (s ∷ rs) x)
+
+pub length-with_run : (runs : List Run) (x : Run) → (length runs ≤ length (with_run runs x)) × (length (with_run runs x) ≤ length runs + 1)
+length-with_run [] x = (omega arith, omega arith)
+length-with_run (r ∷ []) x =
+    elim (can_join r x) as (λ b. (1 ≤ length (cond b (joined r x ∷ []) (r ∷ x ∷ []))) × (length (cond b (joined r x ∷ []) (r ∷ x ∷ [])) ≤ 2)) [
+      | true ↦ (omega arith, omega arith)
+      | false ↦ (omega arith, omega arith)
+    ]
+length-with_run (r ∷ s ∷ rs) x =
+    let h = length-with_run (s ∷ rs) x in
+    (omega (arith, h.0), omega (arith, h.1))
+
+pub MayCut-with_run : (runs : List Run) (x : Run) → AreRuns runs → MayCut (with_run runs x) (length runs) (last_count runs)
+MayCut-with_run runs x h = record {
+  fits = (length-with_run runs x).0;
+  one = (length-with_run runs x).1;
+  runs_left = subst AreRuns (sym (shortened-with_run runs x)) h;
+}
+
+pub length-shortened : (kept count : ℕ) (runs : List Run) → kept ≤ length runs → length (shortened kept count runs) ≡ kept
+length-shortened zero count [] le = refl
+length-shortened (suc n) count [] le = absurd (omega arith)
+length-shortened zero count (r ∷ rs) le = refl
+length-shortened (suc zero) count (r ∷ rs) le = refl
+length-shortened (suc (suc n)) count (r ∷ rs) le = ap suc (length-shortened (suc n) count rs (omega (arith, le)))
+
+pub last_count_at : (rs : List Run) (d : Run) (i : ℕ) → i + 1 ≡ length rs → last_count rs ≡ (get_or rs i d).count
+last_count_at [] d i e = absurd (omega arith)
+last_count_at (n ∷ []) d zero e = refl
+last_count_at (n ∷ []) d (suc i) e = absurd (omega arith)
+last_count_at (n ∷ m ∷ ns) d zero e = absurd (omega arith)
+last_count_at (n ∷ m ∷ ns) d (suc i) e = last_count_at (m ∷ ns) d i (omega arith)
+
+-- runs inside a file of so many blocks end there
+pub ends_inside : (l : Layout) (blocks : ℕ) (runs : List Run) → AllByRecursion (IsPlaced l blocks) runs → end_of runs ≤ blocks
+ends_inside l blocks [] h = omega arith
+ends_inside l blocks (r ∷ []) h = h.0.block
+ends_inside l blocks (r ∷ s ∷ rs) h = ends_inside l blocks (s ∷ rs) h.1

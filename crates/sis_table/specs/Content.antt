@@ -26,7 +26,8 @@ mapped_block live (Some place) = block_at live place
 -- a file's bytes: its blocks in order, cut at its size
 abbrev pub content_of : Node → List ℕ → List ℕ
 content_of n live =
-    take n.size (flat_map (λ block. mapped_block live (place_of n.runs block)) (range_with_len 0 (blocks_of n.size)))
+    take n.size (flat_map (λ block. mapped_block live (place_of n.runs block))
+    (range_with_len 0 (blocks_of n.size)))
 
 -- the bytes of files under their names
 abbrev pub Files : Type 0

@@ -60,4 +60,5 @@ Names defect (faults.Bad kind file index) = defect ≡ Some (kind, file, index)
 
 -- the marks stand at the places of these runs
 abbrev pub Marks : List Bool → List Run → Type 0
-Marks marks runs = (place : ℕ) → place < length marks → slice_index_or marks place false ≡ is_mapped runs place
+Marks marks runs =
+    (place : ℕ) → place < length marks → slice_index_or marks place false ≡ is_mapped runs place

@@ -6,4 +6,5 @@ pub mod Index
 pub mod Reading
 pub mod Runs
 pub mod Spelling
+pub mod Undo
 pub mod Volume

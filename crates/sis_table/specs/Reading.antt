@@ -1,6 +1,6 @@
 -- Reading a table from left to right, with the first fault that is met. `total` is how many bytes
 -- there are in all, so that a fault's place is counted from the first one.
-use Rattle.std.specs.Prelude.{◌≡◌, ℕ, zero, suc, ◌+◌, ◌-◌, ◌*◌, Bool, false, ◌||◌, not, List, [], ◌∷◌, ◌++◌, length, drop, Option, Some, None, is_some, Result, Ok, Err, nat_lt, nat_le, ◌==◌, if◌then◌else◌}
+use Rattle.std.specs.Prelude.{◌≡◌, ℕ, zero, suc, ◌+◌, ◌-◌, ◌*◌, ◌≤◌, Bool, false, ◌||◌, List, [], ◌∷◌, ◌++◌, length, drop, Option, Some, None, is_some, Result, Ok, Err, nat_lt, nat_le, ◌==◌, if◌then◌else◌}
 use Rattle.std.specs.List.{list_any}
 use Rattle.byteorder.specs.Endian.{little_number}
 use Rattle.sis_disk.specs.Layout.{first_place}
@@ -34,13 +34,19 @@ abbrev pub Gives : {X Y : Type 0} → (X → Y) → Result X TableFault → Resu
 Gives view (Ok x) read = read ≡ Ok (view x)
 Gives view (Err e) read = Fails e read
 
+-- a fault isn't behind so many bytes
+abbrev pub IsWithin : ℕ → TableFault → Type 0
+IsWithin n faults.Memory = Unit {0}
+IsWithin n (faults.At at _) = at ≤ n
+
 -- goes on where the field that begins here isn't wrong
 abbrev pub guard : {A : Type 0} → ℕ → List ℕ → TableKind → Bool → A → Result A Fault
 guard total bytes kind wrong x = if wrong then Err (total - length bytes, kind) else Ok x
 
 -- a number of so many bytes, and the bytes behind it
 unfoldable pub number_at : ℕ → ℕ → List ℕ → Result (ℕ × List ℕ) Fault
-number_at n total bytes = guard total bytes kinds.Short (nat_lt (length bytes) n) (little_number n bytes, drop n bytes)
+number_at n total bytes =
+    guard total bytes kinds.Short (nat_lt (length bytes) n) (little_number n bytes, drop n bytes)
 
 -- so many units
 abbrev pub units_of : ℕ → List ℕ → List ℕ
@@ -56,7 +62,8 @@ units_at total bytes = do
 
 -- no name, one of the common store's, or one that an earlier file has
 abbrev pub is_bad_name : List Node → List ℕ → Bool
-is_bad_name front units = is_some (name_fault units) || is_store_name units || list_any (has_name units) front
+is_bad_name front units =
+    is_some (name_fault units) || is_store_name units || list_any (has_name units) front
 
 -- a name and a kind: the name is judged once the kind is read
 unfoldable pub named_at : ℕ → List Node → List ℕ → Result (List ℕ × List ℕ) Fault
@@ -80,11 +87,13 @@ end_before (Some before) = block_end before
 unfoldable pub run_at : ℕ → Layout → ℕ → Option Run → List ℕ → Result (Run × List ℕ) Fault
 run_at total layout blocks before bytes = do
   first ← number_at 8 total bytes
-  a ← guard total bytes kinds.Run (nat_lt first.0 (end_before before) || nat_le blocks first.0) (tt {0})
+  a ← guard total bytes kinds.Run
+      (nat_lt first.0 (end_before before) || nat_le blocks first.0) (tt {0})
   count ← number_at 8 total first.1
   b ← guard total first.1 kinds.Run ((count.0 == 0) || nat_lt (blocks - first.0) count.0) (tt {0})
   place ← number_at 8 total count.1
-  c ← guard total count.1 kinds.Run (joins before (record { first = first.0; count = count.0; place = place.0 })
+  c ← guard total count.1 kinds.Run
+      (joins before (record { first = first.0; count = count.0; place = place.0 })
       || nat_lt place.0 (first_place layout) || nat_lt layout.total (place.0 + count.0)) (tt {0})
   Ok (record { first = first.0; count = count.0; place = place.0 }, place.1)
 
@@ -104,12 +113,17 @@ node_at total layout next front bytes = do
   size ← number_at 8 total name.1
   b ← guard total name.1 kinds.Size (nat_lt greatest_size size.0) (tt {0})
   version ← number_at 8 total size.1
-  c ← guard total size.1 kinds.NodeVersion ((version.0 == 0) || nat_lt greatest_number version.0) (tt {0})
+  c ← guard total size.1 kinds.NodeVersion
+      ((version.0 == 0) || nat_lt greatest_number version.0) (tt {0})
   count ← number_at 4 total version.1
   runs ← runs_at total layout (blocks_of size.0) None count.0 count.1
-  Ok (record { id = id.0; name = name.0; size = size.0; version = version.0; runs = runs.0 }, runs.1)
+  Ok (
+    record { id = id.0; name = name.0; size = size.0; version = version.0; runs = runs.0 },
+    runs.1,
+  )
 
-unfoldable pub nodes_at : ℕ → Layout → ℕ → List Node → ℕ → List ℕ → Result (List Node × List ℕ) Fault
+unfoldable pub nodes_at : ℕ → Layout → ℕ → List Node → ℕ → List ℕ
+    → Result (List Node × List ℕ) Fault
 nodes_at total layout next front zero bytes = Ok ([], bytes)
 nodes_at total layout next front (suc n) bytes = do
   first ← node_at total layout next front bytes
@@ -134,14 +148,3 @@ table_at layout bytes = do
   nodes ← nodes_at (length bytes) layout head.0 [] head.2 head.3
   a ← guard (length bytes) nodes.1 kinds.Trailing (nat_lt 0 (length nodes.1)) (tt {0})
   Ok (record { layout = layout; next_id = head.0; greatest = head.1; nodes = nodes.0 })
-
--- The table without files. Another isn't opened yet: its fault is at the first field that differs.
-unfoldable pub new_table_at : Layout → List ℕ → Result VolumeTable Fault
-new_table_at layout bytes = do
-  next ← number_at 8 (length bytes) bytes
-  a ← guard (length bytes) bytes kinds.Next (not (next.0 == 1)) (tt {0})
-  greatest ← number_at 8 (length bytes) next.1
-  b ← guard (length bytes) next.1 kinds.Greatest (not (greatest.0 == 0)) (tt {0})
-  count ← number_at 4 (length bytes) greatest.1
-  c ← guard (length bytes) greatest.1 kinds.Count (not (count.0 == 0)) (tt {0})
-  table_at layout bytes

@@ -1,5 +1,5 @@
 -- Runs of blocks: which blocks of a file lie at which places.
-use Rattle.std.specs.Prelude.{◌≡◌, ℕ, ◌+◌, ◌-◌, ◌≤◌, ◌==◌, ◌&&◌, nat_le, nat_lt, Bool, false, if◌then◌else◌, List, [], ◌∷◌, sum_by, Option, None, Some}
+use Rattle.std.specs.Prelude.{◌≡◌, ℕ, zero, suc, ◌+◌, ◌-◌, ◌≤◌, ◌==◌, ◌&&◌, nat_le, nat_lt, Bool, false, if◌then◌else◌, List, [], ◌∷◌, length, sum_by, Option, None, Some}
 use Rattle.sis_table.specs.declared.runs.Run.{Run}
 
 -- the block behind the run, and the place behind it
@@ -57,6 +57,25 @@ with_run (r ∷ []) x =
     if can_join r x then record { first = r.first; count = r.count + x.count; place = r.place } ∷ []
     else r ∷ x ∷ []
 with_run (r ∷ s ∷ rs) x = r ∷ with_run (s ∷ rs) x
+
+-- so many of the runs, the last one of so many blocks
+abbrev pub shortened : ℕ → ℕ → List Run → List Run
+shortened len count [] = []
+shortened zero count (r ∷ rs) = []
+shortened (suc zero) count (r ∷ rs) = record r { count = count } ∷ []
+shortened (suc (suc n)) count (r ∷ rs) = r ∷ shortened (suc n) count rs
+
+-- how many blocks the last run has, 0 where there is none
+abbrev pub last_count : List Run → ℕ
+last_count [] = 0
+last_count (r ∷ []) = r.count
+last_count (r ∷ s ∷ rs) = last_count (s ∷ rs)
+
+-- at most one run may be taken away, and runs have to be left
+pub record MayCut (runs : List Run) (kept count : ℕ) : Type 0 where
+  pub fits : kept ≤ length runs
+  pub one : length runs ≤ kept + 1
+  pub runs_left : AreRuns (shortened kept count runs)
 
 abbrev pub with_runs : List Run → List Run → List Run
 with_runs runs [] = runs

@@ -1,7 +1,7 @@
 -- The one spelling of a table. Numbers have their lowest byte first.
-use Rattle.std.specs.Prelude.{ℕ, ◌+◌, ◌*◌, ◌≤◌, List, [], ◌∷◌, ◌++◌, length, flat_map}
+use Rattle.std.specs.Prelude.{◌≡◌, ℕ, ◌+◌, ◌*◌, ◌≤◌, List, [], ◌∷◌, ◌++◌, length, flat_map}
 use Rattle.byteorder.specs.Endian.{little_bytes}
-use Rattle.sis_table.specs.Volume.{VolumeTable}
+use Rattle.sis_table.specs.Volume.{VolumeTable, IsTable}
 use Rattle.sis_table.specs.declared.runs.Run.{Run}
 use Rattle.sis_table.specs.declared.node.Node.{Node}
 
@@ -29,7 +29,8 @@ runs_text runs = le4 (length runs) ++ flat_map run_text runs
 
 -- id, name, kind (0: a plain file), size, version and runs
 unfoldable pub node_text : Node → List ℕ
-node_text n = le8 n.id ++ name_text n.name ++ 0 ∷ [] ++ le8 n.size ++ le8 n.version ++ runs_text n.runs
+node_text n =
+    le8 n.id ++ name_text n.name ++ 0 ∷ [] ++ le8 n.size ++ le8 n.version ++ runs_text n.runs
 
 -- next id, greatest index, number of files, and the files by rising id
 unfoldable pub spelling : VolumeTable → List ℕ
@@ -43,3 +44,8 @@ node_len n = 31 + 2 * length n.name + 24 * length n.runs
 pub record IsShort (n : Node) : Type 0 where
   pub name : length n.name ≤ 255
   pub runs : length n.runs ≤ 16777216
+
+-- a table, and the length of its spelling
+pub record IsMeasured (v : VolumeTable) (len : ℕ) : Type 0 where
+  pub table : IsTable v
+  pub measure : len ≡ length (spelling v)

@@ -1,11 +1,12 @@
 -- What a `Table` shows, and which values are tables.
-use Rattle.std.specs.Prelude.{◌≡◌, ℕ, ◌+◌, ◌/◌, ◌^◌, ◌<◌, ◌≤◌, ◌==◌, nat_eq, Bool, false, List, [], ◌∷◌, ◌++◌, length, map, find, count_by, Option}
+use Rattle.std.specs.Prelude.{◌≡◌, ℕ, ◌+◌, ◌/◌, ◌^◌, ◌<◌, ◌≤◌, ◌==◌, nat_eq, Bool, false, List, [], ◌∷◌, ◌++◌, length, map, filter, find, count_by, Option, None, Some}
 use Rattle.std.specs.List.{list_any, AllByRecursion, range_with_len}
 use Rattle.std.specs.Cmp.Lexicographic.{pointwise}
+use Rattle.std.specs.FinMap.{FinMap, from_entries, keys}
 use Rattle.sis_disk.specs.declared.layout.Layout.{Layout}
 use Rattle.sis_disk.specs.Layout.{IsLayout, first_place, data_blocks}
 use Rattle.sis_name.specs.Name.{IsName}
-use Rattle.sis_name.specs.Units.{is_store_name}
+use Rattle.sis_name.specs.Units.{name_cmp, is_after, is_store_name}
 use Rattle.sis_table.specs.declared.runs.Run.{Run}
 use Rattle.sis_table.specs.declared.node.Node.{Node}
 use Rattle.sis_table.specs.Runs.{AreRuns, block_end, place_end, has_place}
@@ -46,6 +47,21 @@ node_named v name = find (has_name name) v.nodes
 
 abbrev pub node_with : VolumeTable → ℕ → Option Node
 node_with v id = find (λ n. n.id == id) v.nodes
+
+-- the files' ids under their names
+abbrev pub ids_of : VolumeTable → FinMap name_cmp ℕ
+ids_of v = from_entries (map (λ n. (n.name, n.id)) v.nodes)
+
+-- the names of files that are greater than this one, in order; all names, without one
+abbrev pub names_after : VolumeTable → Option (List ℕ) → List (List ℕ)
+names_after v after = filter (is_after after) (keys (ids_of v))
+
+-- the file with the first of these names, and the names behind it
+abbrev pub IsNextFile : VolumeTable → Option (List ℕ) → Option ℕ → Type 0
+IsNextFile v after None = names_after v after ≡ []
+IsNextFile v after (Some id) =
+    (n : Node) × (node_with v id ≡ Some n)
+    × (names_after v after ≡ n.name ∷ names_after v (Some n.name))
 
 -- a place is mapped
 abbrev pub is_used : List Node → ℕ → Bool

@@ -11,7 +11,8 @@ use crate::Run;
 /// Marks the places of the runs, up to a run that has a place with a mark.
 pub fn maps_twice(marks: &mut [bool], runs: &[Run]) -> bool
     requires { All (λ r. place_end r ≤ length marks.old) runs.now }
-    ensures value { (before : List ARun) → Marks marks.old before → result ≡ repeats before runs.now }
+    ensures value { (before : List ARun) → Marks marks.old before
+        → result ≡ repeats before runs.now }
     ensures marks { (before : List ARun) → Marks marks.old before
         → OnFalse result (Marks marks.new (before ++ runs.now)) }
 {
@@ -26,7 +27,8 @@ pub fn maps_twice(marks: &mut [bool], runs: &[Run]) -> bool
 // Whether one of the run's places had a mark.
 fn mark(marks: &mut [bool], run: &Run) -> bool
     requires { place_end run.now ≤ length marks.old }
-    ensures value { result ≡ list_any (λ m. m) (slice_range marks.old run.now.place (place_end run.now)) }
+    ensures value { result ≡ list_any (λ m. m)
+        (slice_range marks.old run.now.place (place_end run.now)) }
     ensures marks { marks.new ≡ take run.now.place marks.old
         ++ replicate run.now.count true ++ drop (place_end run.now) marks.old }
 {

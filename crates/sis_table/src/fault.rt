@@ -1,4 +1,5 @@
-//! Why some bytes are no table, and why the files of a table don't go together.
+//! Why some bytes are no table, why the files of a table don't go together, and why edits were not
+//! made.
 use sis_disk::{GoodKind, TableKind};
 use std::alloc::{AllocError, AllocFailed};
 
@@ -62,5 +63,28 @@ impl From<AllocError> for GoodFault {
 
     fn from(_e: AllocError) -> GoodFault {
         GoodFault::Memory
+    }
+}
+
+/// Why edits were not made.
+#[derive(Clone, Copy, Debug, PartialEq, Eq)]
+pub enum EditsFault {
+    /// The spelling of the table after them is too long.
+    TooLong {
+        /// Its length in bytes.
+        needed: u64,
+    },
+    /// There was no memory.
+    Memory,
+}
+
+impl From<AllocError> for EditsFault {
+    ghost use Rattle.std.specs.Prelude.{◌≡◌};
+    ghost use Rattle.sis_table.specs.declared.fault.EditsFault.TheVariants.{Memory};
+
+    ghost from_gives = { λ _ e. e ≡ Memory };
+
+    fn from(_e: AllocError) -> EditsFault {
+        EditsFault::Memory
     }
 }

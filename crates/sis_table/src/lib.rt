@@ -5,16 +5,18 @@
 mod checking;
 mod edit;
 mod fault;
+mod files;
 mod node;
 mod reading;
 mod runs;
 mod table;
 #[cfg(test)]
 mod tests;
+mod undo;
 mod writing;
 
 pub use edit::Edit;
-pub use fault::{GoodFault, TableFault};
+pub use fault::{EditsFault, GoodFault, TableFault};
 pub use node::Node;
 pub use reading::one_spelling;
 pub use runs::{Run, Runs};

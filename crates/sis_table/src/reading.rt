@@ -1,15 +1,14 @@
 //! Reads a table from left to right.
-ghost use Rattle.std.specs.Prelude.{◌≡◌, ◌+◌, ◌*◌, ◌<◌, ◌≤◌, ◌^◌, ◌-◌, ◌||◌, not, nat_lt, [], length, IfOk, Ok, None};
+ghost use Rattle.std.specs.Prelude.{◌≡◌, ◌+◌, ◌*◌, ◌<◌, ◌≤◌, ◌^◌, ◌-◌, ◌||◌, not, nat_lt, false, [], length, IfOk, Ok, None};
+ghost use Rattle.std.specs.List.{list_any};
 ghost use Rattle.std.specs.Option.{ForSome};
 ghost use Rattle.sis_disk.specs.Layout.{IsLayout, first_place};
-ghost use Rattle.sis_table.specs.Volume.{VolumeTable, IsTable, blocks_of, greatest_size};
+ghost use Rattle.sis_table.specs.Volume.{VolumeTable, IsTable, has_name, last_id, blocks_of, greatest_size};
 ghost use Rattle.sis_table.specs.Spelling.{spelling};
 ghost use Rattle.sis_table.specs.Reading.{Gives, guard, number_at, units_of, units_at, is_bad_name, named_at};
 ghost use Rattle.sis_table.specs.Reading.{joins, end_before, run_at, runs_at, node_at, nodes_at, head_at, table_at};
 
-mod front;
-
-use self::front::Front;
+use crate::files::Files;
 use crate::{Layout, Node, Run, Runs, TableFault, TableKind};
 use byteorder::{ByteOrder, LittleEndian};
 use sis_name::{Name, NameFault};
@@ -124,13 +123,14 @@ fn name_units_at(alloc: Global, total: usize, bytes: &[u8]) -> Result<(Vec<u16>,
 fn judged_name(
     alloc: Global,
     total: usize,
-    front: &Front,
+    front: &Files,
     bytes: &[u8],
     units: &[u16],
 ) -> Result<Name, TableFault>
     requires { length bytes.now ≤ total }
-    ensures { Gives (λ name. name) result
+    ensures value { Gives (λ name. name) result
         (guard total bytes.now TableKind.Name (is_bad_name front.now units.now) units.now) }
+    ensures free { IfOk result (λ name. list_any (has_name name) front.now ≡ false) }
 {
     match Name::from_units(alloc, units) {
         Ok(name) => {
@@ -149,12 +149,13 @@ fn judged_name(
 fn named_of<'a>(
     alloc: Global,
     total: usize,
-    front: &Front,
+    front: &Files,
     bytes: &'a [u8],
 ) -> Result<(Name, &'a [u8]), TableFault>
     requires { length bytes.now ≤ total }
     ensures value { Gives (λ x. (x.0, x.1.now)) result (named_at total front.now bytes.now) }
     ensures shorter { IfOk result (λ x. length x.1.now ≤ total) }
+    ensures free { IfOk result (λ x. list_any (has_name x.0) front.now ≡ false) }
 {
     let (units, rest) = name_units_at(alloc, total, bytes)?;
     let (kind, after) = u8_at(total, rest)?;
@@ -307,7 +308,7 @@ fn node_of<'a>(
     total: usize,
     layout: &Layout,
     next_id: u64,
-    front: &Front,
+    front: &Files,
     bytes: &'a [u8],
 ) -> Result<(Node, &'a [u8]), TableFault>
     requires whole { length bytes.now ≤ total }
@@ -315,6 +316,8 @@ fn node_of<'a>(
     ensures value { Gives (λ x. (x.0, x.1.now)) result
         (node_at total layout.now next_id front.now bytes.now) }
     ensures shorter { IfOk result (λ x. length x.1.now ≤ total) }
+    ensures rises { IfOk result (λ x. last_id front.now < x.0.id) }
+    ensures free { IfOk result (λ x. list_any (has_name x.0.name) front.now ≡ false) }
 {
     let (id, after_id) = u64_at(total, bytes)?;
     if id <= front.last_id() || next_id <= id {
@@ -349,21 +352,21 @@ fn nodes_of<'a>(
     next_id: u64,
     count: u32,
     bytes: &'a [u8],
-) -> Result<(Vec<Node>, &'a [u8]), TableFault>
+) -> Result<(Files, &'a [u8]), TableFault>
     requires whole { length bytes.now ≤ total }
     requires layout { IsLayout layout.now }
-    ensures value { Gives (λ x. (x.0.items, x.1.now)) result
+    ensures value { Gives (λ x. (x.0, x.1.now)) result
         (nodes_at total layout.now next_id [] count bytes.now) }
     ensures shorter { IfOk result (λ x. length x.1.now ≤ total) }
 {
-    let mut front = Front::new(alloc);
+    let mut front = Files::new(alloc);
     let mut rest = bytes;
     for _ in 0..count {
         let (node, after) = node_of(alloc, total, layout, next_id, &front, rest)?;
-        front = front.with(alloc, node)?;
+        front.push(node)?;
         rest = after;
     }
-    Ok((front.into_nodes(), rest))
+    Ok((front, rest))
 }
 
 /// Next id, greatest index and number of files.
@@ -394,13 +397,13 @@ pub fn read_table(
     alloc: Global,
     bytes: &[u8],
     layout: &Layout,
-) -> Result<(u64, u64, Vec<Node>), TableFault>
+) -> Result<(u64, u64, Files), TableFault>
     requires { IsLayout layout.now }
     ensures { Gives (λ x. record {
       layout = layout.now;
       next_id = x.0;
       greatest = x.1;
-      nodes = x.2.items;
+      nodes = x.2;
     }) result (table_at layout.now bytes.now) }
 {
     let total = bytes.len();

@@ -1,6 +1,6 @@
 //! Runs of blocks: which blocks of a file lie at which places of the image.
-ghost use Rattle.std.specs.Prelude.{◌≡◌, ◌<◌, ◌^◌, [], IfOk, OnOk, OnErr};
-ghost use Rattle.sis_table.specs.Runs.{with_run, can_join, block_end, MayAppend, AreRuns};
+ghost use Rattle.std.specs.Prelude.{◌≡◌, ◌<◌, ◌^◌, [], length, IfOk, OnOk, OnErr};
+ghost use Rattle.sis_table.specs.Runs.{with_run, shortened, last_count, can_join, block_end, MayAppend, MayCut, AreRuns};
 
 use std::alloc::{AllocError, Global};
 use std::marker::Model;
@@ -86,6 +86,35 @@ impl Runs {
         }
         self.runs.push(run)?;
         Ok(())
+    }
+
+    /// How many runs there are.
+    pub(crate) fn len(&self) -> usize
+        ensures { result ≡ length self.now }
+    {
+        self.runs.len()
+    }
+
+    /// How many blocks the last run has, 0 where there is none.
+    #[tactic(auto, using(crate::proofs::RunLemmas::last_count_at))]
+    pub(crate) fn last_count(&self) -> u64
+        ensures { result ≡ last_count self.now }
+    {
+        match self.runs.as_slice() {
+            [] => 0,
+            [.., run] => run.count,
+        }
+    }
+
+    /// Leaves so many runs, the last one of so many blocks.
+    pub(crate) fn cut(&mut self, kept: usize, count: u64)
+        requires { MayCut self.old kept count }
+        ensures { self.new ≡ shortened kept count self.old }
+    {
+        self.runs.truncate(kept);
+        if kept > 0 {
+            self.runs[kept - 1].count = count;
+        }
     }
 
     /// Equal runs.

@@ -3,7 +3,7 @@ ghost use Rattle.std.specs.Prelude.{◌≡◌, ◌∷◌, [], IfOk};
 ghost use Rattle.sis_table.specs.Edits.{edited_by};
 ghost use Rattle.sis_table.specs.Volume.{empty_table};
 
-use crate::{Edit, Layout, Run, Runs, Table};
+use crate::{Edit, EditsFault, Layout, Run, Runs, Table};
 use sis_name::Name;
 use std::alloc::{AllocError, Global};
 use std::test::Fail;
@@ -79,9 +79,58 @@ fn a_table_shows_its_file(rt: HostRuntime) -> Result<(), Fail> {
     assert_eq!(rt; table.layout(), LAYOUT);
     assert_eq!(rt; (table.next_id(), table.greatest()), (2, 0));
     assert_eq!(rt; table.find(&name), Some(1));
+    assert_eq!(rt; table.files(), 1);
+    assert_eq!(rt; table.next_file(None), Some(1));
+    assert_eq!(rt; table.next_file(Some(&name)), None);
     let node = table.node(1).ok_or("no file")?.copy(alloc)?;
     assert_eq!(rt; (node.size, node.version), (3, 1));
     table.good(alloc)?;
+    Ok(())
+}
+
+fn edits(alloc: Global, first: Name, second: Name) -> Result<Vec<Edit>, AllocError>
+    requires first { first ≡ 98 ∷ [] }
+    requires second { second ≡ 97 ∷ [] }
+    ensures { IfOk result (λ edits. edits.items ≡ Edit.Make 1 (98 ∷ []) ∷ Edit.Size 1 3
+        ∷ Edit.Map 1 0 1 6 ∷ Edit.Make 2 (97 ∷ []) ∷ []) }
+{
+    let mut edits = Vec::with_capacity(alloc, 4)?;
+    edits.push(Edit::Make { id: 1, name: first })?;
+    edits.push(Edit::Size { id: 1, size: 3 })?;
+    edits.push(Edit::Map {
+        id: 1,
+        first: 0,
+        count: 1,
+        place: 6,
+    })?;
+    edits.push(Edit::Make {
+        id: 2,
+        name: second,
+    })?;
+    Ok(edits)
+}
+
+#[test]
+fn all_edits_are_made_or_none(rt: HostRuntime) -> Result<(), Fail> {
+    let alloc = rt.alloc();
+    let (later, sooner) = (
+        Name::from_units(alloc, &[0x62])?,
+        Name::from_units(alloc, &[0x61])?,
+    );
+    let edits = edits(alloc, later.copy(alloc)?, sooner.copy(alloc)?)?;
+    let mut refused = Table::empty(alloc, LAYOUT);
+    let fault = refused.apply_all(&edits, 109).err();
+    assert_eq!(rt; fault, Some(EditsFault::TooLong { needed: 110 }));
+    assert_eq!(rt; encoded(alloc, &refused)?.as_slice(), EMPTY.as_slice());
+    let mut table = Table::empty(alloc, LAYOUT);
+    table.apply_all(&edits, 110)?;
+    assert_eq!(rt; (table.files(), table.encoded_len()), (2, 110));
+    assert_eq!(rt;
+        (table.find(&later), table.find(&sooner)),
+        (Some(1), Some(2))
+    );
+    assert_eq!(rt; table.next_file(None), Some(2));
+    assert_eq!(rt; table.next_file(Some(&sooner)), Some(1));
     Ok(())
 }
 

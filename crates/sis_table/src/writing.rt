@@ -1,5 +1,5 @@
-//! The spelling of a table: its length, and its bytes at the end of a vector that has room for them,
-//! so that nothing fails half-way.
+//! The spelling of a table: its bytes at the end of a vector that has room for them, so that
+//! nothing fails half-way.
 ghost use Rattle.std.specs.Prelude.{◌≡◌, ◌+◌, ◌*◌, ◌≤◌, ◌∷◌, [], ◌++◌, length, vec_capacity, flat_map, sum_by, All};
 ghost use Rattle.sis_table.specs.Spelling.{le2, le4, le8, name_text, run_text, runs_text, node_text, node_len, IsShort};
 
@@ -118,20 +118,8 @@ pub fn put_nodes(out: &mut Vec<u8>, nodes: &[Node])
     }
 }
 
-pub fn len_of_nodes(nodes: &[Node]) -> u64
-    requires few { length nodes.now ≤ 65536 }
-    requires short { All IsShort nodes.now }
-    ensures value { result ≡ sum_by node_len nodes.now }
-    ensures small { result ≤ 402653725 * length nodes.now }
-{
-    let mut sum = 0;
-    for node in nodes {
-        sum += len_of_node(node);
-    }
-    sum
-}
-
-fn len_of_node(node: &Node) -> u64
+/// How long a file's text is.
+pub fn len_of_node(node: &Node) -> u64
     requires { IsShort node.now }
     ensures value { result ≡ node_len node.now }
     ensures small { result ≤ 402653725 }

@@ -1,7 +1,6 @@
-use Rattle.std.proofs.Common.{◌≡◌, ◌++◌, ◌∷◌, []}
+use Rattle.std.proofs.Common.{[]}
 use Rattle.std.proofs.lemmas.Result.{err_from_is_err_and}
 use Rattle.sis_table.specs.Reading.{nodes_at}
-use Rattle.sis_table.proofs.ReadingSteps.{ok_is}
 use Rattle.sis_table.proofs.ReadingLoops.{node_read, node_fails, nodes_read}
 use Rattle.sis_table.proofs.reading.nodes_of.Goals as goal
 
@@ -12,15 +11,13 @@ returns-in_err-node-clause-value c =
     (nodes_at c.args.total c.args.layout.now c.args.next_id [] c.args.count c.args.bytes.now) c.loop-test.true c.in_err-node.ensures.value c.loop.invariant.told)
 
 pub loop-preserved : goal.loop-preserved
-loop-preserved c =
-    let grown : c.loop.front ++ c.in_ok-node.node ∷ [] ≡ c.in_ok-front.front = ok_is (c.loop.front ++ c.in_ok-node.node ∷ []) c.in_ok-front.front c.in_ok-front.ensures in
-    record {
-      told = rw (← grown) (node_read c.args.total c.args.layout.now c.args.next_id c.loop.front c.args.count c.loop.counter c.loop.rest.now c.in_ok-node.node c.in_ok-node.after.now
-          (nodes_at c.args.total c.args.layout.now c.args.next_id [] c.args.count c.args.bytes.now) c.loop-test.true c.in_ok-node.ensures.value c.loop.invariant.told);
-      whole = c.in_ok-node.ensures.shorter;
-    }
+loop-preserved c = record {
+  told = rw c.in_ok-push.ensures.ok (node_read c.args.total c.args.layout.now c.args.next_id c.loop.front c.args.count c.loop.counter c.loop.rest.now c.in_ok-node.node c.in_ok-node.after.now
+      (nodes_at c.args.total c.args.layout.now c.args.next_id [] c.args.count c.args.bytes.now) c.loop-test.true c.in_ok-node.ensures.value c.loop.invariant.told);
+  whole = c.in_ok-node.ensures.shorter;
+}
 
 pub returns-clause-value : goal.returns-clause-value
 returns-clause-value c =
-    rw c.into_nodes.ensures (nodes_read c.args.total c.args.layout.now c.args.next_id c.loop.front c.args.count c.loop.counter c.loop.rest.now
-    (nodes_at c.args.total c.args.layout.now c.args.next_id [] c.args.count c.args.bytes.now) c.loop-test.false c.loop.invariant.told)
+    nodes_read c.args.total c.args.layout.now c.args.next_id c.loop.front c.args.count c.loop.counter c.loop.rest.now
+    (nodes_at c.args.total c.args.layout.now c.args.next_id [] c.args.count c.args.bytes.now) c.loop-test.false c.loop.invariant.told
