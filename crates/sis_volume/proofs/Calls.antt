@@ -1,9 +1,10 @@
 -- What a call of a disk leaves of its live bytes.
-use Rattle.std.proofs.Common.{◌≡◌, ◌⊎◌, inl, inr, ℕ, [], true, false, List, length, Option, Some, None, refl, ap, ◌∙◌}
+use Rattle.std.proofs.Common.{◌≡◌, ◌⊎◌, inl, inr, ℕ, [], true, false, List, length, Option, Some, None, refl, sym, ap, ◌∙◌, subst}
 use Rattle.std.specs.Prelude.{Result, Ok, Err, MatchResult, IfSome, is_err}
 use Rattle.std.specs.Option.{option_map}
 use Rattle.sis_disk.specs.Record.{Call, DiskRecord, State, Seen, Went, Writes, Syncs, after, state_of, live_bytes, live_of, with_call, laid}
 use Rattle.sis_disk.specs.Stops.{Now}
+use Rattle.sis_volume.specs.Formatting.{EndsInSync}
 use Rattle.sis_disk.proofs.Push.{live_with}
 use Rattle.sis_disk.proofs.Images.{now_call}
 
@@ -63,4 +64,13 @@ pub sync_stable : {T E : Type 0} (result : Result T E) (old new : Seen) → Went
 sync_stable (Ok x) old new went ok = now_call (λ s. s.loose ≡ []) (Syncs true) old new went.ok (λ r is. refl)
 sync_stable (Err e) old new went ok = absurd cc
 
-pub ruleset calls = (live_either, live_written, live_sync, either_later, sync_stable)
+ends_in_sync : (old new : Option DiskRecord) → new ≡ option_map (with_call (Syncs true)) old → IfSome new EndsInSync
+ends_in_sync None new e = subst (λ (o : Option DiskRecord). IfSome o EndsInSync) (sym e) tt
+ends_in_sync (Some r) new e = subst (λ (o : Option DiskRecord). IfSome o EndsInSync) (sym e) (r.calls, refl)
+
+-- a sync that succeeded is the last call
+pub sync_ends : {T E : Type 0} (result : Result T E) (old new : Seen) → Went Syncs result old new → is_err result ≡ false → IfSome new.told EndsInSync
+sync_ends (Ok x) old new went ok = ends_in_sync old.told new.told went.ok.told
+sync_ends (Err e) old new went ok = absurd cc
+
+pub ruleset calls = (live_either, live_written, live_sync, either_later, sync_stable, sync_ends)

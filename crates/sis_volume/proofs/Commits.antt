@@ -1,6 +1,6 @@
 -- What a commit and an edit leave of what a volume keeps.
 use Rattle.std.proofs.Common.{◌≡◌, ◌⊎◌, inl, inr, ℕ, ◌+◌, ◌*◌, ◌≤◌, Bool, true, false, List, length, take, Option, Some, None, refl, sym, ap, ◌∙◌, subst, arith}
-use Rattle.std.specs.Prelude.{slice_range, IfSome, if◌then◌else◌}
+use Rattle.std.specs.Prelude.{slice_range, IfSome}
 use Rattle.std.specs.Option.{option_map}
 use Rattle.sis_disk.specs.Record.{laid, Seen, live_of, live_bytes}
 use Rattle.sis_disk.specs.Layout.{first_place, IsLayout, table_cap}
@@ -8,7 +8,7 @@ use Rattle.sis_disk.specs.declared.layout.Layout.{Layout}
 use Rattle.sis_disk.proofs.Laid.{length-laid}
 use Rattle.sis_table.specs.Volume.{VolumeTable, IsTable, is_used, used_places}
 use Rattle.sis_table.specs.Content.{files_of}
-use Rattle.sis_table.specs.Image.{Holds, selected_at, area_text}
+use Rattle.sis_table.specs.Image.{Holds, area_start, selected_at, area_text}
 use Rattle.sis_table.specs.Spelling.{spelling}
 use Rattle.sis_table.proofs.ImageLemmas.{length-area_text, slice-laid_in, slice-laid_out, take-laid_below}
 use Rattle.sis_table.proofs.PutLemmas.{is_used-between}
@@ -17,13 +17,9 @@ use Rattle.sis_volume.specs.Keeping.{Both, KeepsBlocks}
 use Rattle.sis_volume.proofs.Calls.{sized_live}
 use Rattle.sis_volume.proofs.Keeps.{both_same, both_weaker, laid_out-kept, area_end, files-kept, some-kept}
 
--- where an area begins
-abbrev pub start_of : Layout → Bool → ℕ
-start_of l second = if second then 4096 * (2 + l.area + l.log) else 8192
-
-start_low : (l : Layout) (second : Bool) → 8192 ≤ start_of l second
-start_low l true = omega arith
-start_low l false = omega arith
+area_low : (l : Layout) (second : Bool) → 8192 ≤ area_start l second
+area_low l true = omega arith
+area_low l false = omega arith
 
 -- the text of an area fits it
 pub area_fits : (v : VolumeTable) → length (spelling v) ≤ table_cap v.layout → IsLayout v.layout → length (area_text v) ≤ 4096 * v.layout.area
@@ -34,7 +30,7 @@ area_fits v fits layout =
 
 -- an area lies inside its image
 pub area_inside : (v : VolumeTable) (second : Bool) → length (spelling v) ≤ table_cap v.layout → IsLayout v.layout
-    → start_of v.layout second + length (area_text v) ≤ 4096 * v.layout.total
+    → area_start v.layout second + length (area_text v) ≤ 4096 * v.layout.total
 area_inside v second fits layout =
     let some = layout.has_data in
     let end = area_end v.layout second (length (area_text v)) (area_fits v fits layout) in
@@ -51,10 +47,10 @@ pub record KeepsHead (v : VolumeTable) (old new : List ℕ) : Type 0 where
   pub blocks : KeepsBlocks v old new
 
 head-laid : (v : VolumeTable) (second : Bool) (live : List ℕ) → IsTable v → length (spelling v) ≤ table_cap v.layout → length live ≡ 4096 * v.layout.total
-    → KeepsHead v live (laid live (start_of v.layout second) (area_text v))
+    → KeepsHead v live (laid live (area_start v.layout second) (area_text v))
 head-laid v second live table fits size =
-    let at = start_of v.layout second in
-    let low = start_low v.layout second in
+    let at = area_start v.layout second in
+    let low = area_low v.layout second in
     let inside = area_inside v second fits table.layout in
     let within : at + length (area_text v) ≤ length live = omega arith in
     let end = area_end v.layout second (length (area_text v)) (area_fits v fits table.layout) in
@@ -67,13 +63,13 @@ head-laid v second live table fits size =
 
 some-laid : (v : VolumeTable) (second : Bool) (live : Option (List ℕ)) → IsTable v → length (spelling v) ≤ table_cap v.layout
     → IfSome live (λ now. length now ≡ 4096 * v.layout.total)
-    → Both (KeepsHead v) live (option_map (λ now. laid now (start_of v.layout second) (area_text v)) live)
+    → Both (KeepsHead v) live (option_map (λ now. laid now (area_start v.layout second) (area_text v)) live)
 some-laid v second None table fits size = tt
 some-laid v second (Some live) table fits size = head-laid v second live table fits size
 
 -- writing the area keeps the head and the files, whatever became of it
 pub commit-keeps : (v : VolumeTable) (second : Bool) (bitmap : List Bool) (room : ℕ) (was : Bool) (at : ℕ) (bytes : List ℕ) (old new : Seen)
-    → IsKept v second bitmap room was old → at ≡ start_of v.layout second → bytes ≡ area_text v
+    → IsKept v second bitmap room was old → at ≡ area_start v.layout second → bytes ≡ area_text v
     → IfSome old.told (λ r. length (live_bytes r) ≡ old.size)
     → (live_of new ≡ live_of old) ⊎ (live_of new ≡ option_map (λ live. laid live at bytes) (live_of old))
     → Both (KeepsHead v) (live_of old) (live_of new)
@@ -85,14 +81,14 @@ commit-keeps v second bitmap room was at bytes old new h is_at is_text told (inr
     subst (λ (o : Option (List ℕ)). Both (KeepsHead v) (live_of old) o) (sym (rw (is_at, is_text) at wrote)) (some-laid v second (live_of old) h.table h.fits sized)
 
 holds-laid : (v : VolumeTable) (second : Bool) (live : List ℕ) → IsTable v → length (spelling v) ≤ table_cap v.layout → length live ≡ 4096 * v.layout.total
-    → IsLaidOut v.layout second live → Holds (laid live (start_of v.layout second) (area_text v)) v
+    → IsLaidOut v.layout second live → Holds (laid live (area_start v.layout second) (area_text v)) v
 holds-laid v second live table fits size laid_out =
-    let at = start_of v.layout second in
+    let at = area_start v.layout second in
     let keeps = head-laid v second live table fits size in
     let inside = area_inside v second fits table.layout in
     let within : at + length (area_text v) ≤ length live = omega arith in
     let new = laid_out-kept v.layout second 8192 live (laid live at (area_text v)) (omega arith) keeps.head laid_out in
-    let there : selected_at v.layout (laid live at (area_text v)) ≡ at = ap (start_of v.layout) new.selector in
+    let there : selected_at v.layout (laid live at (area_text v)) ≡ at = ap (area_start v.layout) new.selector in
     record {
       table = table;
       size = keeps.size ∙ size;
@@ -103,13 +99,13 @@ holds-laid v second live table fits size laid_out =
 
 some-holds : (v : VolumeTable) (second : Bool) (live : Option (List ℕ)) → IsTable v → length (spelling v) ≤ table_cap v.layout
     → IfSome live (λ now. length now ≡ 4096 * v.layout.total) → IfSome live (IsLaidOut v.layout second)
-    → IfSome (option_map (λ now. laid now (start_of v.layout second) (area_text v)) live) (λ now. Holds now v)
+    → IfSome (option_map (λ now. laid now (area_start v.layout second) (area_text v)) live) (λ now. Holds now v)
 some-holds v second None table fits size laid_out = tt
 some-holds v second (Some live) table fits size laid_out = holds-laid v second live table fits size laid_out
 
 -- the image holds the table whose text was written to the selected area
 pub commit-holds : (v : VolumeTable) (second : Bool) (bitmap : List Bool) (room : ℕ) (was : Bool) (at : ℕ) (bytes : List ℕ) (old new : Seen)
-    → IsKept v second bitmap room was old → at ≡ start_of v.layout second → bytes ≡ area_text v
+    → IsKept v second bitmap room was old → at ≡ area_start v.layout second → bytes ≡ area_text v
     → IfSome old.told (λ r. length (live_bytes r) ≡ old.size) → live_of new ≡ option_map (λ live. laid live at bytes) (live_of old)
     → IfSome (live_of new) (λ live. Holds live v)
 commit-holds v second bitmap room was at bytes old new h is_at is_text told wrote =

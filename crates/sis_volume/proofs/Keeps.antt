@@ -1,6 +1,6 @@
 -- What a write to free places leaves as it was.
 use Rattle.std.proofs.Common.{◌≡◌, ◌⊎◌, inl, inr, ℕ, ◌+◌, ◌*◌, ◌/◌, ◌<◌, ◌≤◌, Bool, true, false, List, length, take, drop, slice_index, Option, Some, None, refl, sym, ap, ◌∙◌, subst, arith}
-use Rattle.std.specs.Prelude.{slice_range, IfSome, Result, Ok, Err, is_err, ◌==◌, if◌then◌else◌}
+use Rattle.std.specs.Prelude.{slice_range, IfSome, Result, Ok, Err, is_err, ◌==◌}
 use Rattle.std.specs.Option.{option_map}
 use Rattle.std.proofs.lemmas.Bool.{cases_lt}
 use Rattle.std.proofs.lemmas.List.{take-take, get_or-take, length-take-le}
@@ -13,7 +13,7 @@ use Rattle.sis_table.specs.declared.runs.Run.{Run}
 use Rattle.sis_table.specs.Runs.{place_end}
 use Rattle.sis_table.specs.Volume.{VolumeTable, is_used}
 use Rattle.sis_table.specs.Content.{run_bytes, files_of}
-use Rattle.sis_table.specs.Image.{Holds, selected_at, area_text}
+use Rattle.sis_table.specs.Image.{Holds, area_start, selected_at, area_text}
 use Rattle.sis_table.specs.Spelling.{spelling}
 use Rattle.sis_table.proofs.ContentLemmas.{files_of-same}
 use Rattle.sis_table.proofs.ImageLemmas.{block_at-laid, length-area_text, run_bytes-laid, take-laid_below}
@@ -100,7 +100,7 @@ laid_out-kept l second n old new lt e h =
     }
 
 pub area_end : (l : Layout) (second : Bool) (n : ℕ) → n ≤ 4096 * l.area
-    → (if second then 4096 * (2 + l.area + l.log) else 8192) + n ≤ 4096 * first_place l
+    → area_start l second + n ≤ 4096 * first_place l
 area_end l true n le = omega arith
 area_end l false n le = omega arith
 
@@ -117,7 +117,7 @@ pub holds-kept : (v : VolumeTable) (old new : List ℕ) → length new ≡ lengt
 holds-kept v old new size e h =
     let some : 2 ≤ first_place v.layout = omega arith in
     let less : 4096 ≤ 4096 * first_place v.layout = omega arith in
-    let at : selected_at v.layout new ≡ selected_at v.layout old = ap (λ (b : ℕ). if b == 1 then 4096 * (2 + v.layout.area + v.layout.log) else 8192) (index_kept old new (4096 * first_place v.layout) 4096 e (omega arith)) in
+    let at : selected_at v.layout new ≡ selected_at v.layout old = ap (λ (b : ℕ). area_start v.layout (b == 1)) (index_kept old new (4096 * first_place v.layout) 4096 e (omega arith)) in
     record {
       table = h.table;
       size = size ∙ h.size;

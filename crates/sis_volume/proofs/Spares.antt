@@ -17,7 +17,7 @@ use Rattle.sis_volume.specs.Keeping.{IsNextRun}
 abbrev is_spare : (ℕ → Bool) → ℕ → ℕ → Bool
 is_spare test from place = nat_le from place && not (test place)
 
-count-cons : {X : Type 0} (p : X → Bool) (x : X) (xs : List X) → count_by p (x ∷ xs) ≡ cond (p x) 1 0 + count_by p xs
+pub count-cons : {X : Type 0} (p : X → Bool) (x : X) (xs : List X) → count_by p (x ∷ xs) ≡ cond (p x) 1 0 + count_by p xs
 count-cons p x xs = sum_by-cons (λ y. cond (p y) 1 0) x xs
 
 spare_bits : (test : ℕ → Bool) (first n from : ℕ) → count_by (is_spare test from) (range_with_len first n) ≡ free_in (drop (from - first) (map test (range_with_len first n)))
@@ -51,7 +51,7 @@ pub spare_from-bits : (v : VolumeTable) (from : ℕ) → spare_from v from ≡ f
 spare_from-bits v from = spare_bits (is_used v.nodes) (first_place v.layout) (data_blocks v.layout) from
 
 -- a bit that is set or not
-counted : (bs : List Bool) → count_by (λ b. b) bs + free_in bs ≡ length bs
+pub counted : (bs : List Bool) → count_by (λ b. b) bs + free_in bs ≡ length bs
 counted [] = refl
 counted (true ∷ bs) = omega (arith, counted bs, count-cons (λ (c : Bool). c) true bs, count-cons not true bs)
 counted (false ∷ bs) = omega (arith, counted bs, count-cons (λ (c : Bool). c) false bs, count-cons not false bs)

@@ -18,7 +18,8 @@ Both P (Some old) (Some new) = P old new
 
 -- the mapped blocks are the same
 abbrev pub KeepsBlocks : VolumeTable → List ℕ → List ℕ → Type 0
-KeepsBlocks v old new = (place : ℕ) → is_used v.nodes place ≡ true → block_at new place ≡ block_at old place
+KeepsBlocks v old new =
+    (place : ℕ) → is_used v.nodes place ≡ true → block_at new place ≡ block_at old place
 
 -- The bytes before the data blocks, those before a place and the mapped blocks are the same.
 pub record KeepsFiles (v : VolumeTable) (from : ℕ) (old new : List ℕ) : Type 0 where
@@ -37,7 +38,8 @@ pub record IsNextRun (v : VolumeTable) (from first most : ℕ) (r : Run) : Type 
   pub left : spare_from v from ≡ r.count + spare_from v (place_end r)
 
 -- The first of these blocks were written to the next free places and mapped there.
-pub record StagesRun (v : VolumeTable) (old new : TxnView) (file first : ℕ) (bytes : List ℕ) (live : Option (List ℕ)) (r : Run) : Type 0 where
+pub record StagesRun (v : VolumeTable) (old new : TxnView) (file first : ℕ) (bytes : List ℕ)
+    (live : Option (List ℕ)) (r : Run) : Type 0 where
   pub begins : r.first ≡ first
   pub some : 1 ≤ r.count
   pub few : 4096 * r.count ≤ length bytes

@@ -14,8 +14,10 @@ pub record IsLaidOut (l : Layout) (second : Bool) (live : List ℕ) : Type 0 whe
   pub selector : (slice_index live 4096 == 1) ≡ second
 
 -- The bitmap has the mapped places, the buffer has room for an area, the table fits its area, the
--- image is laid out as the layout says, and without an edit since the last commit it holds the table.
-pub record IsKept (v : VolumeTable) (second : Bool) (bitmap : List Bool) (room : ℕ) (is_changed : Bool) (seen : Seen) : Type 0 where
+-- image is laid out as the layout says, and without an edit since the last commit it holds the
+-- table.
+pub record IsKept (v : VolumeTable) (second : Bool) (bitmap : List Bool) (room : ℕ)
+    (is_changed : Bool) (seen : Seen) : Type 0 where
   pub table : IsTable v
   pub fits : length (spelling v) ≤ table_cap v.layout
   pub used : bitmap ≡ used_places v

@@ -1,4 +1,5 @@
 pub mod Applying
+pub mod Formatting
 pub mod Keeping
 pub mod Kept
 pub mod Opening

@@ -24,7 +24,8 @@ AreFree v from to (r ∷ rs) = (from ≤ r.place) × IsFree v r × AreFree v (pl
 
 -- Blocks of a file, from `first` on, were written to free places that no earlier edit of the
 -- transaction was given, and are mapped by its new edits.
-pub record Stages (v : VolumeTable) (old new : TxnView) (file first blocks : ℕ) (bytes : List ℕ) (live : Option (List ℕ)) (runs : List Run) : Type 0 where
+pub record Stages (v : VolumeTable) (old new : TxnView) (file first blocks : ℕ) (bytes : List ℕ)
+    (live : Option (List ℕ)) (runs : List Run) : Type 0 where
   pub edits : new.edits ≡ old.edits ++ map (map_edit file) runs
   pub chain : IsChain first (first + blocks) runs
   pub places : AreFree v old.from new.from runs
@@ -34,6 +35,7 @@ pub record Stages (v : VolumeTable) (old new : TxnView) (file first blocks : ℕ
 abbrev pub HindersStaging : Seen → Seen → Hindrance → Type 0
 HindersStaging old new hindrance.Memory = ⊤
 HindersStaging old new hindrance.Disk = Rose old.faults new.faults
+HindersStaging old new (hindrance.Limit kind) = ⊥
 HindersStaging old new (hindrance.Full needed used total) = ⊥
 HindersStaging old new (hindrance.TableFull needed cap) = ⊥
 HindersStaging old new (hindrance.Down at) = ⊥

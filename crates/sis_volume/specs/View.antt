@@ -19,7 +19,8 @@ pub record TxnView : Type 0 where
 
 -- how many places of data blocks from this one on no file maps
 abbrev pub spare_from : VolumeTable → ℕ → ℕ
-spare_from v from = count_by (λ place. nat_le from place && not (is_used v.nodes place)) (data_places v.layout)
+spare_from v from =
+    count_by (λ place. nat_le from place && not (is_used v.nodes place)) (data_places v.layout)
 
 -- how many data blocks no file maps
 abbrev pub spare : VolumeTable → ℕ

@@ -1,47 +1,32 @@
 //! Edits of the table in memory. Nothing is written.
-ghost use Rattle.std.specs.Prelude.{◌≡◌, ◌<◌, length, OnOk, OnErr, IfOk, IfErr, IsErr, true};
-ghost use Rattle.sis_disk.specs.Layout.{table_cap, first_place};
-ghost use Rattle.sis_table.specs.Volume.{used_places};
+ghost use Rattle.std.specs.Prelude.{◌≡◌, ◌<◌, length, OnOk, OnErr, IfErr, IsErr, true};
+ghost use Rattle.std.specs.List.{All};
+ghost use Rattle.sis_disk.specs.Layout.{table_cap};
 ghost use Rattle.sis_table.specs.Spelling.{spelling};
 ghost use Rattle.sis_table.specs.Edits.{edited_by, MayEditBy};
-ghost use Rattle.sis_volume.specs.Applying.{HindersApplying, IsInside, marked};
+ghost use Rattle.sis_volume.specs.Applying.{HindersApplying, IsInside, marked, marked_by};
 
+use crate::bitmap::Bitmap;
 use crate::{Txn, Volume};
 use sis_disk::Disk;
 use sis_model::Hindrance;
-use sis_table::{Edit, Table};
-use std::alloc::{AllocError, Global};
-
-// The table after these edits.
-fn edited_copy(alloc: Global, table: &Table, edits: &[Edit]) -> Result<Table, AllocError>
-    requires { MayEditBy table.now edits.now }
-    ensures { IfOk result (λ new. new ≡ edited_by table.now edits.now) }
-{
-    let mut copy = table.copy(alloc)?;
-    for edit in edits {
-        copy.apply(edit)?;
-    }
-    Ok(copy)
-}
+use sis_table::{Edit, EditsFault};
 
 // Marks the places that an edit maps. The first bit is for the place `low`.
-fn mark_edit(mapped: &mut [bool], edit: &Edit, low: u64)
+fn mark_edit(mapped: &mut Bitmap, edit: &Edit, low: u64)
     requires { IsInside low (length mapped.old) edit.now }
     ensures { mapped.new ≡ marked low edit.now mapped.old }
 {
     if let Edit::Map { count, place, .. } = edit {
-        let start = (*place - low) as usize;
-        mapped[start..start + *count as usize].fill(true);
+        mapped.mark((*place - low) as usize, *count as usize);
     }
 }
 
-// Marks the places that these edits of the table map.
-fn mark_mapped(mapped: &mut [bool], table: &Table, edits: &[Edit])
-    requires edits { MayEditBy table.now edits.now }
-    requires mapped { mapped.old ≡ used_places table.now }
-    ensures { mapped.new ≡ used_places (edited_by table.now edits.now) }
+// Marks the places that edits map. The first bit is for the place `low`.
+fn mark_edits(mapped: &mut Bitmap, edits: &[Edit], low: u64)
+    requires { All (IsInside low (length mapped.old)) edits.now }
+    ensures { mapped.new ≡ marked_by low edits.now mapped.old }
 {
-    let low = table.layout().first_place();
     for edit in edits {
         mark_edit(mapped, edit, low);
     }
@@ -65,18 +50,16 @@ impl<D: Disk> Volume<D> {
             (table_cap self.old.table.layout)) }
     {
         let edits = txn.edits();
-        let alloc = *self.buffer.allocator();
-        let Ok(table) = edited_copy(alloc, &self.table, edits) else {
-            return Err(Hindrance::Memory);
-        };
-        let needed = table.encoded_len();
-        let cap = table.layout().cap();
-        if needed > cap {
-            return Err(Hindrance::TableFull { needed, cap });
+        let layout = self.table.layout();
+        let cap = layout.cap();
+        match self.table.apply_all(edits, cap) {
+            Ok(()) => {
+                mark_edits(&mut self.mapped, edits, layout.first_place());
+                self.is_changed = true;
+                Ok(())
+            }
+            Err(EditsFault::TooLong { needed }) => Err(Hindrance::TableFull { needed, cap }),
+            Err(EditsFault::Memory) => Err(Hindrance::Memory),
         }
-        mark_mapped(&mut self.mapped, &self.table, edits);
-        self.table = table;
-        self.is_changed = true;
-        Ok(())
     }
 }

@@ -1,79 +1,24 @@
 //! Commits: the table's spelling goes to the selected area.
-ghost use Rattle.std.specs.Prelude.{◌≡◌, ◌⊎◌, ℕ, ◌+◌, ◌*◌, ◌≤◌, length, vec_capacity, true, false, Some, None, Err, IfSome, IsOk, OnOk, OnErr, IfErr, if◌then◌else◌, []};
-ghost use Rattle.std.specs.Option.{option_map};
-ghost use Rattle.sis_disk.specs.Record.{Rose, laid, live_of};
+ghost use Rattle.std.specs.Prelude.{◌≡◌, ◌⊎◌, ℕ, ◌+◌, ◌≤◌, length, vec_capacity, true, false, Some, None, Err, IfSome, IsOk, OnOk, OnErr, IfErr, []};
+ghost use Rattle.sis_disk.specs.Record.{Rose, live_of};
 ghost use Rattle.sis_disk.specs.Stops.{Elapses, Now};
-ghost use Rattle.sis_disk.specs.Layout.{IsLayout};
 ghost use Rattle.sis_table.specs.Content.{files_in};
-ghost use Rattle.sis_table.specs.Spelling.{le8};
 ghost use Rattle.sis_table.specs.Image.{Holds, area_text};
 
 use crate::Volume;
-use byteorder::{ByteOrder, LittleEndian};
-use sis_disk::{Disk, Layout};
+use crate::areas::{area_start, put_area, write_stable};
+use sis_disk::Disk;
 use sis_model::Hindrance;
 use sis_table::Table;
 
-// Where an area begins.
-fn area_start(layout: Layout, second: bool) -> u64
-    requires { IsLayout layout }
-    ensures { result ≡ (if second then 4096 * (2 + layout.area + layout.log) else 8192) }
-{
-    if second {
-        4096 * (2 + layout.area + layout.log)
-    } else {
-        8192
-    }
-}
-
-// The length field of an area. There is room, so no memory is taken.
-#[tactic(auto, unfolding(sis_table::specs::Spelling::le8))]
-fn put_length(buffer: &mut Vec<u8>, length: u64)
-    requires { 8 ≤ vec_capacity buffer.old }
-    ensures items { buffer.new.items ≡ le8 length }
-    ensures capacity { vec_capacity buffer.old ≤ vec_capacity buffer.new }
-{
-    let mut bytes = [0; 8];
-    LittleEndian::write_u64(&mut bytes, length);
-    buffer.clear();
-    let _ = buffer.extend_from_slice(&bytes);
-}
-
-// An area's bytes: the table's length, and its spelling. There is room, so no memory is taken.
+// An area's bytes, and nothing else. There is room, so no memory is taken.
 fn spell_area(table: &Table, buffer: &mut Vec<u8>)
     requires { length (area_text table.now) ≤ vec_capacity buffer.old }
     ensures text { buffer.new.items ≡ area_text table.now }
     ensures capacity { vec_capacity buffer.old ≤ vec_capacity buffer.new }
 {
-    put_length(buffer, table.encoded_len());
-    let _ = table.encode(buffer);
-}
-
-// Writes bytes, and makes them stable. An error is the number of the disk's call that failed.
-#[tactic(auto, using(crate::proofs::Calls::calls))]
-fn write_stable<D: Disk>(disk: &mut D, at: u64, bytes: &[u8]) -> Result<(), u64>
-    requires { at + length bytes.now ≤ (D.seen disk.old).size }
-    ensures written { OnOk result (live_of (D.seen disk.new)
-        ≡ option_map (λ live. laid live at bytes.now) (live_of (D.seen disk.old))) }
-    ensures stable { OnOk result (Now (λ s. s.loose ≡ []) (D.seen disk.new)) }
-    ensures live { (live_of (D.seen disk.new) ≡ live_of (D.seen disk.old))
-        ⊎ (live_of (D.seen disk.new)
-        ≡ option_map (λ live. laid live at bytes.now) (live_of (D.seen disk.old))) }
-    ensures at { IfErr result (λ call. (call ≡ (D.seen disk.old).calls)
-        ⊎ (call ≡ (D.seen disk.old).calls + 1)) }
-    ensures cause { OnErr result (Rose (D.seen disk.old).faults (D.seen disk.new).faults) }
-    ensures elapses { Elapses (D.seen disk.old) (D.seen disk.new) }
-    ensures calls { (D.seen disk.new).calls ≤ (D.seen disk.old).calls + 2 }
-{
-    let call = disk.calls();
-    if disk.write(at, bytes).is_err() {
-        return Err(call);
-    }
-    let call = disk.calls();
-    if disk.sync().is_err() {
-        return Err(call);
-    }
-    Ok(())
+    buffer.clear();
+    put_area(table, buffer);
 }
 
 impl<D: Disk> Volume<D> {
@@ -119,7 +64,7 @@ impl<D: Disk> Volume<D> {
             return Ok(());
         }
         spell_area(&self.table, &mut self.buffer);
-        let at = area_start(self.table.layout(), self.second);
+        let at = area_start(&self.table.layout(), self.second);
         match write_stable(&mut self.disk, at, &self.buffer) {
             Ok(()) => {
                 self.is_changed = false;

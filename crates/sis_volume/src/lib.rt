@@ -2,16 +2,23 @@
 #![tactic(auto)]
 
 mod applying;
+mod areas;
+mod bitmap;
 mod committing;
 mod fault;
+mod formatting;
+mod laws;
 mod opening;
 mod places;
 mod room;
 mod staging;
 mod superblock;
+#[cfg(test)]
+mod tests;
 mod txn;
 mod volume;
 
-pub use fault::{OpenFault, Refused};
+pub use fault::{FormatFault, OpenFault, Refused};
+pub use laws::held_is_read;
 pub use txn::Txn;
 pub use volume::Volume;

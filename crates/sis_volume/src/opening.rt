@@ -1,22 +1,24 @@
 //! Opens a disk as a volume: reads its first block, its selector, and the area that is selected.
-ghost use Rattle.std.specs.Prelude.{◌≡◌, ◌≢◌, ◌^◌, ◌+◌, ◌*◌, ◌-◌, ◌≤◌, ◌==◌, None, Ok, Result, false, length, take, slice_index, slice_range, vec_capacity, IfOk, IfErr, IfSome, OnOk, OnErr};
+ghost use Rattle.std.specs.Prelude.{◌≡◌, ◌≢◌, ◌^◌, ◌+◌, ◌*◌, ◌≤◌, ◌==◌, None, Ok, Result, false, length, take, slice_index, slice_range, vec_capacity, IfOk, IfErr, IfSome, OnOk, OnErr};
 ghost use Rattle.sis_disk.specs.Layout.{IsLayout, table_cap};
 ghost use Rattle.sis_disk.specs.Record.{Rose, live_of};
 ghost use Rattle.sis_disk.specs.Superblock.{superblock, superblock_at};
-ghost use Rattle.sis_table.specs.Image.{area_text, image_at, shifted};
-ghost use Rattle.sis_table.specs.Reading.{Fault, Fails, Gives, new_table_at, number_at};
+ghost use Rattle.sis_table.specs.Image.{area_start, area_text, image_at, shifted};
+ghost use Rattle.sis_table.specs.Good.{IsGood};
+ghost use Rattle.sis_table.specs.Reading.{Fault, Fails, IsWithin};
 ghost use Rattle.sis_table.specs.Spelling.{spelling};
-ghost use Rattle.sis_table.specs.declared.fault.TableFault.TheVariants.{At};
-ghost use Rattle.sis_table.specs.Volume.{VolumeTable, empty_table};
+ghost use Rattle.sis_table.specs.Volume.{VolumeTable};
 ghost use Rattle.sis_volume.specs.declared.fault.OpenFault.TheVariants as faults;
 ghost use Rattle.sis_volume.specs.Kept.{IsKept};
-ghost use Rattle.sis_volume.specs.Opening.{Answers, Caused, FailsAs, IsOutside, IsWithin, OnlyReads, area_place, area_table};
+ghost use Rattle.sis_volume.specs.Opening.{Answers, Caused, FailsAs, FailsReading, IsOutside, OnlyReads, area_table};
 
+use crate::areas::area_start;
+use crate::bitmap::Bitmap;
 use crate::superblock::read_superblock;
 use crate::{OpenFault, Refused, Volume};
 use byteorder::{ByteOrder, LittleEndian};
-use sis_disk::{Disk, DiskFault, ImageKind, Layout, TableKind};
-use sis_table::{Table, TableFault};
+use sis_disk::{Disk, DiskFault, ImageKind, Layout};
+use sis_table::{GoodFault, Table, TableFault};
 use std::alloc::{AllocError, AllocFailed, Global};
 
 impl From<DiskFault> for OpenFault {
@@ -73,7 +75,8 @@ fn read_layout<D: Disk>(disk: &mut D) -> Result<Layout, OpenFault>
     ensures layout { IfOk result IsLayout }
     ensures size { IfOk result (λ l. (D.seen disk.old).size ≡ 4096 * l.total) }
     ensures log { IfOk result (λ l. l.log ≡ 0) }
-    ensures cause { IfErr result (λ fault. Caused fault (D.seen disk.old).faults (D.seen disk.new).faults) }
+    ensures cause { IfErr result
+        (λ fault. Caused fault (D.seen disk.old).faults (D.seen disk.new).faults) }
 {
     let size = disk.len();
     if size < 4096 {
@@ -111,18 +114,6 @@ struct Area {
     bytes: Vec<u8>,
 }
 
-// Where an area begins.
-fn place_of_area(layout: &Layout, second: bool) -> u64
-    requires { IsLayout layout.now }
-    ensures { result ≡ area_place layout.now second }
-{
-    if second {
-        4096 * (2 + layout.area + layout.log)
-    } else {
-        8192
-    }
-}
-
 /// The area that the selector names, all of its bytes.
 fn read_area<D: Disk>(alloc: Global, disk: &mut D, layout: &Layout) -> Result<Area, OpenFault>
     requires layout { IsLayout layout.now }
@@ -132,85 +123,25 @@ fn read_area<D: Disk>(alloc: Global, disk: &mut D, layout: &Layout) -> Result<Ar
         (λ live. (slice_index live 4096 == 1) ≡ area.second)) }
     ensures bytes { IfOk result (λ area. IfSome (live_of (D.seen disk.old))
         (λ live. area.bytes.items ≡ slice_range live area.at (area.at + 4096 * layout.now.area))) }
-    ensures place { IfOk result (λ area. area.at ≡ area_place layout.now area.second) }
+    ensures place { IfOk result (λ area. area.at ≡ area_start layout.now area.second) }
     ensures size { IfOk result (λ area. length area.bytes.items ≡ 4096 * layout.now.area) }
     ensures fault { IfErr result IsOutside }
-    ensures cause { IfErr result (λ fault. Caused fault (D.seen disk.old).faults (D.seen disk.new).faults) }
+    ensures cause { IfErr result
+        (λ fault. Caused fault (D.seen disk.old).faults (D.seen disk.new).faults) }
 {
     let second = read_selector(disk)?;
     let mut bytes = vec![in alloc; 0; (4096 * layout.area) as usize]?;
-    let at = place_of_area(layout, second);
+    let at = area_start(layout, second);
     read_at(disk, at, &mut bytes)?;
     Ok(Area { second, at, bytes })
-}
-
-fn fault_at(total: usize, bytes: &[u8], kind: TableKind) -> TableFault
-    requires { length bytes.now ≤ total }
-    ensures { result ≡ At (total - length bytes.now) kind }
-{
-    TableFault::At {
-        at: (total - bytes.len()) as u64,
-        kind,
-    }
-}
-
-// A number of eight bytes, and the bytes behind it.
-#[tactic(auto, unfolding(sis_table::specs::Reading::number_at))]
-fn u64_at(total: usize, bytes: &[u8]) -> Result<(u64, &[u8]), TableFault>
-    requires { length bytes.now ≤ total }
-    ensures value { Gives (λ x. (x.0, x.1.now)) result (number_at 8 total bytes.now) }
-    ensures shorter { IfOk result (λ x. length x.1.now ≤ total) }
-    ensures bound { IfErr result (IsWithin total) }
-{
-    if bytes.len() < 8 {
-        return Err(fault_at(total, bytes, TableKind::Short));
-    }
-    Ok((LittleEndian::read_u64(bytes), &bytes[8..]))
-}
-
-// A number of four bytes, and the bytes behind it.
-#[tactic(auto, unfolding(sis_table::specs::Reading::number_at))]
-fn u32_at(total: usize, bytes: &[u8]) -> Result<(u32, &[u8]), TableFault>
-    requires { length bytes.now ≤ total }
-    ensures value { Gives (λ x. (x.0, x.1.now)) result (number_at 4 total bytes.now) }
-    ensures shorter { IfOk result (λ x. length x.1.now ≤ total) }
-    ensures bound { IfErr result (IsWithin total) }
-{
-    if bytes.len() < 4 {
-        return Err(fault_at(total, bytes, TableKind::Short));
-    }
-    Ok((LittleEndian::read_u32(bytes), &bytes[4..]))
-}
-
-/// The table without files, which is the only one that is opened.
-#[tactic(auto, unfolding(sis_table::specs::Reading::new_table_at))]
-fn new_table(alloc: Global, bytes: &[u8], layout: Layout) -> Result<Table, TableFault>
-    requires { IsLayout layout }
-    ensures value { Gives (λ table. table) result (new_table_at layout bytes.now) }
-    ensures found { IfOk result (λ table. bytes.now ≡ spelling table) }
-    ensures new { IfOk result (λ table. table ≡ empty_table layout) }
-    ensures bound { IfErr result (IsWithin (length bytes.now)) }
-{
-    let (next, rest) = u64_at(bytes.len(), bytes)?;
-    if next != 1 {
-        return Err(fault_at(bytes.len(), bytes, TableKind::Next));
-    }
-    let (greatest, after) = u64_at(bytes.len(), rest)?;
-    if greatest != 0 {
-        return Err(fault_at(bytes.len(), rest, TableKind::Greatest));
-    }
-    let (count, _) = u32_at(bytes.len(), after)?;
-    if count != 0 {
-        return Err(fault_at(bytes.len(), after, TableKind::Count));
-    }
-    Table::decode(alloc, bytes, layout)
 }
 
 // A table's fault as one of the image, where the table begins at `at`.
 fn in_image(at: u64, fault: TableFault) -> OpenFault
     requires place { at ≤ 2 ^ 40 }
     requires bound { IsWithin (2 ^ 40) fault }
-    ensures value { (read : Result VolumeTable Fault) → Fails fault read → FailsAs result (shifted at read) }
+    ensures value { (read : Result VolumeTable Fault) → Fails fault read
+        → FailsReading result (shifted at read) }
     ensures fault { result ≢ faults.Disk }
 {
     match fault {
@@ -229,9 +160,10 @@ fn table_of(alloc: Global, area: &[u8], at: u64, layout: Layout) -> Result<Table
     requires size { length area.now ≡ 4096 * layout.area }
     requires place { at ≤ 4096 * layout.total }
     ensures value { Answers (λ table. table) result (area_table layout at area.now) }
-    ensures found { IfOk result (λ table. take (length (area_text table)) area.now ≡ area_text table) }
+    ensures found { IfOk result
+        (λ table. take (length (area_text table)) area.now ≡ area_text table) }
     ensures fits { IfOk result (λ table. length (spelling table) ≤ table_cap layout) }
-    ensures new { IfOk result (λ table. table ≡ empty_table layout) }
+    ensures layout { IfOk result (λ table. table.layout ≡ layout) }
     ensures fault { IfErr result (λ fault. fault ≢ faults.Disk) }
 {
     let len = LittleEndian::read_u64(area);
@@ -241,9 +173,22 @@ fn table_of(alloc: Global, area: &[u8], at: u64, layout: Layout) -> Result<Table
             kind: ImageKind::TableLength,
         });
     }
-    match new_table(alloc, &area[8..8 + len as usize], layout) {
+    match Table::decode(alloc, &area[8..8 + len as usize], layout) {
         Ok(table) => Ok(table),
         Err(fault) => Err(in_image(at + 8, fault)),
+    }
+}
+
+/// Judges whether the table's files go together.
+fn judge(alloc: Global, table: &Table) -> Result<(), OpenFault>
+    ensures good { OnOk result (IsGood table.now) }
+    ensures fault { IfErr result (λ fault. FailsAs fault (Ok table.now)) }
+    ensures cause { IfErr result (λ fault. fault ≢ faults.Disk) }
+{
+    match table.good(alloc) {
+        Ok(()) => Ok(()),
+        Err(GoodFault::Bad { kind, file, index }) => Err(OpenFault::Bad { kind, file, index }),
+        Err(GoodFault::Memory) => Err(OpenFault::Memory),
     }
 }
 
@@ -252,25 +197,29 @@ fn table_of(alloc: Global, area: &[u8], at: u64, layout: Layout) -> Result<Table
 struct Opened {
     table: Table,
     second: bool,
-    mapped: Vec<bool>,
+    mapped: Bitmap,
     buffer: Vec<u8>,
 }
 
 /// Reads the image: its first block, its selector, and the selected area.
 fn read_image<D: Disk>(alloc: Global, disk: &mut D) -> Result<Opened, OpenFault>
     ensures reads { OnlyReads 3 (D.seen disk.old) (D.seen disk.new) }
-    ensures image { IfSome (live_of (D.seen disk.old))
-        (λ live. Answers (λ opened. opened.table) result (image_at live)) }
-    ensures kept { IfOk result (λ opened. IsKept opened.table opened.second opened.mapped.items
+    ensures image { IfOk result (λ opened. IfSome (live_of (D.seen disk.old))
+        (λ live. image_at live ≡ Ok opened.table)) }
+    ensures good { IfOk result (λ opened. IsGood opened.table) }
+    ensures kept { IfOk result (λ opened. IsKept opened.table opened.second opened.mapped
         (vec_capacity opened.buffer) false (D.seen disk.new)) }
-    ensures new { IfOk result (λ opened. opened.table ≡ empty_table opened.table.layout) }
     ensures log { IfOk result (λ opened. opened.table.layout.log ≡ 0) }
-    ensures cause { IfErr result (λ fault. Caused fault (D.seen disk.old).faults (D.seen disk.new).faults) }
+    ensures fault { IfErr result (λ fault. IfSome (live_of (D.seen disk.old))
+        (λ live. FailsAs fault (image_at live))) }
+    ensures cause { IfErr result
+        (λ fault. Caused fault (D.seen disk.old).faults (D.seen disk.new).faults) }
 {
     let layout = read_layout(disk)?;
     let area = read_area(alloc, disk, &layout)?;
     let table = table_of(alloc, &area.bytes, area.at, layout)?;
-    let mapped = vec![in alloc; false; layout.data_blocks() as usize]?;
+    judge(alloc, &table)?;
+    let mapped = Bitmap::of_table(alloc, &table)?;
     Ok(Opened {
         table,
         second: area.second,
@@ -280,20 +229,26 @@ fn read_image<D: Disk>(alloc: Global, disk: &mut D) -> Result<Opened, OpenFault>
 }
 
 impl<D: Disk> Volume<D> {
-    /// Opens a disk as a volume, by at most three calls, each of which reads. A fault of the image
-    /// is the first one in its order; only the table without files is opened.
+    /// Opens a disk as a volume, by at most three calls, each of which reads.
+    ///
+    /// A fault of the image is the first one in its order. Where it has none, the table's files are
+    /// judged.
     pub fn open(alloc: Global, disk: D) -> Result<Volume<D>, Refused<D, OpenFault>>
-        // The table is the one that the image holds.
+        // The table is the one that the image holds, and its files go together.
         ensures image { IfOk result (λ v. IfSome (live_of (D.seen disk))
             (λ live. image_at live ≡ Ok v.table)) }
-        ensures table { IfOk result (λ v. v.table ≡ empty_table v.table.layout) }
+        ensures good { IfOk result (λ v. IsGood v.table) }
         ensures log { IfOk result (λ v. v.table.layout.log ≡ 0) }
         ensures changed { IfOk result (λ v. v.is_changed ≡ false) }
         ensures down { IfOk result (λ v. v.down ≡ None) }
-        // A refusal names the image's first fault, unless the disk failed or memory ran out.
+
+        // A refusal names the image's first fault, or its table's first defect, unless the disk
+        // failed or memory ran out.
         ensures fault { IfErr result (λ r. IfSome (live_of (D.seen disk))
             (λ live. FailsAs r.fault (image_at live))) }
-        ensures cause { IfErr result (λ r. Caused r.fault (D.seen disk).faults (D.seen r.disk).faults) }
+        ensures cause { IfErr result
+            (λ r. Caused r.fault (D.seen disk).faults (D.seen r.disk).faults) }
+
         // Either way the disk was only read.
         ensures reads { IfOk result (λ v. OnlyReads 3 (D.seen disk) v.seen) }
         ensures refused { IfErr result (λ r. OnlyReads 3 (D.seen disk) (D.seen r.disk)) }

@@ -1,5 +1,5 @@
 //! How much room a volume has.
-ghost use Rattle.std.specs.Prelude.{◌≡◌, ◌+◌, ◌<◌, ◌≤◌, length, Err, None, IfSome, IsOk, OnOk, count_by};
+ghost use Rattle.std.specs.Prelude.{◌≡◌, ◌+◌, ◌<◌, ◌≤◌, length, Err, None, IfSome, IsOk, OnOk};
 ghost use Rattle.sis_disk.specs.Layout.{data_blocks};
 ghost use Rattle.sis_table.specs.Volume.{used};
 ghost use Rattle.sis_table.specs.Spelling.{spelling};
@@ -9,18 +9,12 @@ use crate::Volume;
 use sis_disk::Disk;
 use sis_model::Hindrance;
 
-fn count_mapped(mapped: &[bool]) -> u64
-    ensures { result ≡ count_by (λ b. b) mapped.now }
-{
-    mapped.iter().filter(|used| **used).count() as u64
-}
-
 impl<D: Disk> Volume<D> {
     /// How many data blocks files map.
     pub fn used(&self) -> u64
         ensures { result ≡ used self.now.table }
     {
-        count_mapped(&self.mapped)
+        self.mapped.count()
     }
 
     /// The length of the table, in bytes.

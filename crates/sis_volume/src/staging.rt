@@ -145,7 +145,7 @@ impl<D: Disk> Volume<D> {
         let staged = stage_runs(
             &mut self.disk,
             &self.table,
-            &self.mapped,
+            self.mapped.as_slice(),
             txn,
             file,
             first,

@@ -35,7 +35,9 @@ impl Txn {
 
     /// Adds an edit behind the others.
     pub fn push(&mut self, edit: Edit) -> Result<(), AllocError>
-        ensures ok { OnOk result (self.new ≡ record self.old { edits = self.old.edits ++ edit ∷ [] }) }
+        ensures ok { OnOk result (self.new ≡ record self.old {
+          edits = self.old.edits ++ edit ∷ [];
+        }) }
         ensures err { OnErr result (self.new ≡ self.old) }
     {
         self.edits.push(edit)?;

@@ -1,14 +1,15 @@
 //! A disk with its table, and which of its data blocks are mapped.
-ghost use Rattle.std.specs.Prelude.{◌≡◌, ◌*◌, false, IfSome};
-ghost use Rattle.std.specs.Option.{option_map};
+ghost use Rattle.std.specs.Prelude.{◌≡◌, ◌*◌, length, false, IfSome};
+ghost use Rattle.std.specs.Option.{option_copied, option_map};
 ghost use Rattle.sis_disk.specs.Layout.{IsLayout, data_blocks, table_cap};
-ghost use Rattle.sis_table.specs.Volume.{IsTable, node_named, id_of};
+ghost use Rattle.sis_table.specs.Volume.{IsNextFile, IsTable, node_named, node_with, id_of};
 ghost use Rattle.sis_table.specs.Image.{Holds};
 ghost use Rattle.sis_disk.specs.Record.{live_of};
 
+use crate::bitmap::Bitmap;
 use sis_disk::{Disk, Layout};
 use sis_name::Name;
-use sis_table::Table;
+use sis_table::{Node, Table};
 use std::marker::Model;
 
 /// A disk with its table, and which of its data blocks are mapped.
@@ -19,7 +20,7 @@ pub struct Volume<D: Disk> {
     /// Area B is selected.
     pub(crate) second: bool,
     /// For each data block, whether a file maps it.
-    pub(crate) mapped: Vec<bool>,
+    pub(crate) mapped: Bitmap,
     /// Room for the bytes of an area, so that a commit takes no memory.
     pub(crate) buffer: Vec<u8>,
     /// The table was edited since the last commit.
@@ -42,7 +43,8 @@ impl<D: Disk> Model for Volume<D> {
       down = v.down;
     } };
 
-    ghost invariant = { λ v. IsKept v.table v.second v.mapped.items (vec_capacity v.buffer) v.is_changed (D.seen v.disk) };
+    ghost invariant = { λ v. IsKept v.table v.second v.mapped (vec_capacity v.buffer)
+        v.is_changed (D.seen v.disk) };
 }
 
 impl<D: Disk> Volume<D> {
@@ -75,8 +77,8 @@ impl<D: Disk> Volume<D> {
         ensures table { IsTable self.now.table }
         ensures size { self.now.seen.size ≡ 4096 * result.total }
     {
-        let _ = &self.down;
-        self.table.layout()
+        let Volume { table, .. } = self;
+        table.layout()
     }
 
     /// The id that the next file gets.
@@ -85,6 +87,29 @@ impl<D: Disk> Volume<D> {
         ensures table { IsTable self.now.table }
     {
         self.table.next_id()
+    }
+
+    /// How many files there are.
+    pub fn files(&self) -> u64
+        ensures { result ≡ length self.now.table.nodes }
+    {
+        self.table.files()
+    }
+
+    /// The file with the least name that is greater than this one, and with the least name of all
+    /// where there is none. Takes no memory.
+    pub fn next_file(&self, after: Option<&Name>) -> Option<u64>
+        ensures { IsNextFile self.now.table (option_copied after.entry) result }
+    {
+        self.table.next_file(after)
+    }
+
+    /// The file with this id.
+    pub fn node(&self, id: u64) -> Option<&Node>
+        ensures node { option_copied result ≡ node_with self.now.table id }
+        ensures table { IsTable self.now.table }
+    {
+        self.table.node(id)
     }
 
     /// The file of this name.

@@ -1,40 +1,41 @@
-use Rattle.std.proofs.Common.{◌≡◌, List, length, sym, ap, ap₂, ◌∙◌, arith}
-use Rattle.std.proofs.lemmas.List.{take_at}
-use Rattle.sis_disk.specs.Layout.{table_cap}
-use Rattle.sis_table.specs.Edits.{edited_by}
+use Rattle.std.proofs.Common.{◌≡◌, ℕ, ◌<◌, ◌≤◌, inl, inr, Bool, true, false, List, length, sym, ap, ap₂, ◌∙◌, subst, arith}
+use Rattle.std.specs.List.{All}
+use Rattle.std.proofs.lemmas.Bool.{cases_lt}
+use Rattle.sis_disk.specs.Layout.{first_place, table_cap}
+use Rattle.sis_table.specs.Edits.{edited_by, MayEditBy}
 use Rattle.sis_table.specs.Spelling.{spelling}
-use Rattle.sis_table.specs.Volume.{VolumeTable, used_places}
+use Rattle.sis_table.specs.Volume.{VolumeTable, IsTable, used_places}
 use Rattle.sis_table.specs.declared.edit.Edit.{Edit}
+use Rattle.sis_table.proofs.EditLemmas.{IsTable-edited_by}
 use Rattle.sis_table.proofs.PutLemmas.{edited_by-layout}
+use Rattle.sis_volume.specs.Applying.{IsInside, marked_by}
 use Rattle.sis_volume.specs.View.{VolumeView}
 use Rattle.sis_volume.proofs.Commits.{kept-applied}
+use Rattle.sis_volume.proofs.Edited.{all_inside, marked_by_is}
 use Rattle.sis_volume.proofs.volume.Volume.apply.Goals as goal
 
-pub returns-then-needed-cap-clause-cause : goal.returns-then-needed-cap-clause-cause
-returns-then-needed-cap-clause-cause g c =
-    let was : c.self.inside.table ≡ c.args.self.now.table = ap (λ (v : VolumeView). v.table) c.self.view_is in
-    let is : c.in-Ok.table ≡ edited_by c.args.self.now.table c.args.txn.now.edits = c.in-Ok.ensures ∙ ap₂ (λ (v : VolumeTable) (es : List Edit). edited_by v es) was c.edits-edits.ensures in
-    let len : c.encoded_len-needed.result ≡ length (spelling (edited_by c.args.self.now.table c.args.txn.now.edits)) = c.encoded_len-needed.ensures ∙ ap (λ (v : VolumeTable). length (spelling v)) is in
-    let same = c.layout.ensures.layout ∙ ap (λ (v : VolumeTable). v.layout) is ∙ edited_by-layout c.args.self.now.table c.args.txn.now.edits in
-    let cap : c.cap-cap.result ≡ table_cap c.args.self.now.table.layout = c.cap-cap.ensures ∙ ap table_cap same in
-    (len, cap, omega arith)
+pub mark_edits-requires : goal.mark_edits-requires
+mark_edits-requires g c =
+    let low = c.first_place.ensures ∙ ap first_place c.layout-layout.ensures.layout in
+    let may : MayEditBy c.self.inside.table c.args.txn.now.edits = subst (λ (v : VolumeView). MayEditBy v.table c.args.txn.now.edits) (sym c.self.view_is) c.requires in
+    subst (λ (es : List Edit). All (IsInside c.first_place.result (length c.self.inside.mapped)) es) (sym c.edits-edits.ensures)
+    (all_inside c.self.inside.table c.args.txn.now.edits c.first_place.result c.self.inside.mapped low c.self.invariant.used may)
 
-pub returns-clause-full : goal.returns-clause-full
-returns-clause-full g c = λ lt.
-    let was : c.self.inside.table ≡ c.args.self.now.table = ap (λ (v : VolumeView). v.table) c.self.view_is in
-    let is : c.in-Ok.table ≡ edited_by c.args.self.now.table c.args.txn.now.edits = c.in-Ok.ensures ∙ ap₂ (λ (v : VolumeTable) (es : List Edit). edited_by v es) was c.edits-edits.ensures in
-    let len : c.encoded_len-needed.result ≡ length (spelling (edited_by c.args.self.now.table c.args.txn.now.edits)) = c.encoded_len-needed.ensures ∙ ap (λ (v : VolumeTable). length (spelling v)) is in
-    let same = c.layout.ensures.layout ∙ ap (λ (v : VolumeTable). v.layout) is ∙ edited_by-layout c.args.self.now.table c.args.txn.now.edits in
-    let cap : c.cap-cap.result ≡ table_cap c.args.self.now.table.layout = c.cap-cap.ensures ∙ ap table_cap same in
-    absurd (omega arith)
+not_above : (most len : ℕ) → (most < len → false ≡ true) → len ≤ most
+not_above most len none = elim (cases_lt most len) [ inl lt ↦ (let never = none lt in absurd cc) | inr le ↦ le ]
 
 pub invariant_of-self : goal.invariant_of-self
 invariant_of-self g c =
-    let is : c.in-Ok.table ≡ edited_by c.self.inside.table c.args.txn.now.edits = c.in-Ok.ensures ∙ ap (λ (es : List Edit). edited_by c.self.inside.table es) c.edits-edits.ensures in
-    let same = ap (λ (v : VolumeTable). v.layout) is ∙ edited_by-layout c.self.inside.table c.args.txn.now.edits in
-    let marked : c.mark_mapped.new.mapped ≡ used_places c.in-Ok.table = c.mark_mapped.ensures ∙ ap (λ (es : List Edit). used_places (edited_by c.self.inside.table es)) c.edits-edits.ensures ∙ ap used_places (sym is) in
-    let size : length c.mark_mapped.new.mapped ≡ c.self.inside.mapped.len = omega arith in
-    let len = c.encoded_len-needed.ensures in
-    let cap = c.cap-cap.ensures ∙ ap table_cap c.layout.ensures.layout in
-    kept-applied c.self.inside.table c.in-Ok.table c.self.inside.second c.self.inside.mapped.items _ _ c.self.inside.is_changed (g.D.Disk.seen c.self.inside.disk)
-    c.self.invariant c.layout.ensures.table same (omega arith) (take_at c.mark_mapped.new.mapped _ _ size ∙ marked)
+    let v = c.self.inside.table in
+    let edits = c.args.txn.now.edits in
+    let low = c.first_place.ensures ∙ ap first_place c.layout-layout.ensures.layout in
+    let may : MayEditBy v edits = subst (λ (w : VolumeView). MayEditBy w.table edits) (sym c.self.view_is) c.requires in
+    let is : c.apply_all.new.self ≡ edited_by v edits = c.in-Ok.ensures.ok ∙ ap (λ (es : List Edit). edited_by v es) c.edits-edits.ensures in
+    let same : c.apply_all.new.self.layout ≡ v.layout = ap (λ (w : VolumeTable). w.layout) is ∙ edited_by-layout v edits in
+    let fits = not_above c.cap-cap.result (length (spelling (edited_by v c.edits-edits.result.now))) c.in-Ok.ensures.full in
+    let text = ap (λ (w : VolumeTable). length (spelling w)) c.in-Ok.ensures.ok in
+    let cap : c.cap-cap.result ≡ table_cap c.apply_all.new.self.layout = c.cap-cap.ensures ∙ ap table_cap (c.layout-layout.ensures.layout ∙ sym same) in
+    let bits = c.mark_edits.ensures ∙ ap₂ (λ (es : List Edit) (bs : List Bool). marked_by c.first_place.result es bs) c.edits-edits.ensures c.self.invariant.used
+    ∙ marked_by_is v edits c.first_place.result low may ∙ ap used_places (sym is) in
+    kept-applied v c.apply_all.new.self c.self.inside.second c.self.inside.mapped _ _ c.self.inside.is_changed (g.D.Disk.seen c.self.inside.disk)
+    c.self.invariant (subst (λ (w : VolumeTable). IsTable w) (sym is) (IsTable-edited_by v edits c.self.invariant.table may)) same (omega arith) bits

@@ -8,7 +8,7 @@ use Rattle.sis_volume.proofs.volume.Volume.stage.Goals.{then-is_err, else-is_err
 
 pub invariant_of-self : goal.invariant_of-self
 invariant_of-self g c =
-    kept-staged c.self.inside.table c.self.inside.second c.self.inside.mapped.items _ c.self.inside.is_changed (g.D.Disk.seen c.self.inside.disk)
+    kept-staged c.self.inside.table c.self.inside.second c.self.inside.mapped _ c.self.inside.is_changed (g.D.Disk.seen c.self.inside.disk)
     (g.D.Disk.seen c.stage_runs-staged.new.disk) c.args.txn.now.from c.stage_runs-staged.ensures.elapses.size c.stage_runs-staged.ensures.keeps c.self.invariant
 
 pub returns-clause-spare : goal.returns-clause-spare
