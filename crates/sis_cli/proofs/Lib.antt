@@ -1,4 +1,10 @@
+pub mod Added
+pub mod Decided
+pub mod InOrder
+pub mod Lists
 pub mod Makes
-pub mod Puts
+pub mod NumberLemmas
 pub mod Runs
 pub mod ServeLemmas
+pub mod Sizes
+pub mod Worlds

@@ -1,147 +1,211 @@
--- A line and its client's end, on an image without files.
-use Rattle.std.proofs.Common.{◌≡◌, ℕ, ◌+◌, ◌≤◌, List, [], ◌∷◌, ◌++◌, length, Option, None, Some, is_some, refl, sym, ap, subst, ◌∙◌, arith, length-append}
-use Rattle.std.specs.Prelude.{IfSome, false}
-use Rattle.std.specs.List.{list_any, AllByRecursion}
-use Rattle.std.specs.Option.{option_map}
-use Rattle.std.specs.FinMap.{empty, get-empty}
-use Rattle.sis_name.specs.Units.{name_cmp}
-use Rattle.sis_disk.specs.Record.{Rose, live_of}
+-- Runs: one entry after another, and what each says of the table before it.
+use Rattle.std.proofs.Common.{◌≡◌, ℕ, ◌+◌, ◌≤◌, Bool, true, false, List, [], ◌∷◌, ◌++◌, map, refl, sym, ap, subst, ◌∙◌, arith, append_assoc, ◌||◌, Option, None, Some}
+use Rattle.std.specs.Prelude.{length, All, reverse, ◌==◌, if◌then◌else◌, MatchOption, IfSome, is_some}
+use Rattle.std.proofs.lemmas.List.{reverse-append, length-append}
+use Rattle.std.proofs.lemmas.List.Elements.{All-take}
+use Rattle.std.proofs.Math.Seq.{take-append_seam}
+use Rattle.std.specs.List.{list_any}
+use Rattle.sis_disk.specs.Record.{Rose}
 use Rattle.sis_disk.specs.Stops.{Elapses}
-use Rattle.sis_disk.specs.declared.layout.Layout.{Layout}
-use Rattle.sis_model.specs.World.{World, no_files}
-use Rattle.sis_model.specs.Answer.{MayReply, world_with}
+use Rattle.sis_model.specs.World.{World}
+use Rattle.sis_model.specs.History.{world_after}
+use Rattle.sis_model.specs.Order.{line_of, exec_order, end_of}
+use Rattle.sis_model.proofs.Histories.{world_after-push, IsLegal-push}
 use Rattle.sis_model.specs.declared.command.Command.{Command}
 use Rattle.sis_model.specs.declared.command.Command.TheVariants as command
 use Rattle.sis_model.specs.declared.reply.Reply.{Reply}
 use Rattle.sis_model.specs.declared.reply.Reply.TheVariants as reply
+use Rattle.sis_model.specs.declared.reply.Hindrance.{Hindrance}
 use Rattle.sis_model.specs.declared.reply.Hindrance.TheVariants as hindrance
 use Rattle.sis_model.specs.declared.history.Entry.{Entry}
 use Rattle.sis_model.specs.declared.history.Line.{Line}
-use Rattle.sis_table.specs.Volume.{VolumeTable, empty_table, has_name}
-use Rattle.sis_table.specs.Content.{files_in, files_of}
+use Rattle.sis_table.specs.Volume.{VolumeTable}
+use Rattle.sis_table.specs.Good.{IsGood}
 use Rattle.sis_volume.specs.View.{VolumeView}
-use Rattle.sis_cli.specs.Session.{ShowsWorld, HasRun, IsPutOnNew, IsCauseOnNew, IsCauseOfEnd, IfHindered, IsAnsweredOnNew}
+use Rattle.sis_cli.specs.Stages.{is_down, Changes, PutChanges, IsStep, IsRun, Stage, GoesDown}
+use Rattle.sis_cli.specs.Session.{ShowsWorld, IsSince, Decides, HasRun, is_end, ends_with_end, entry_of, MayRun, stage_of}
+use Rattle.sis_cli.proofs.Added.{good_added, any-append}
 
-nothing_stands : (l : Layout) (live : Option (List ℕ)) → IfSome (option_map (files_of (empty_table l)) live) (λ files. files ≡ empty)
-nothing_stands l None = tt
-nothing_stands l (Some now) = refl
+run_push : (s mid last : Stage) (es : List Entry) (e : Entry) → IsRun s es mid → IsStep mid e last → IsRun s (es ++ e ∷ []) last
+run_push s mid last [] e h step = (last, subst (λ (t : Stage). IsStep t e last) h step, refl)
+run_push s mid last (x ∷ es) e h step = (h.0, h.1, run_push h.0 mid last es e h.2 step)
 
--- an image without files shows the world without files
-pub shows_none : (v : VolumeView) → v.table ≡ empty_table v.table.layout → ShowsWorld no_files v
-shows_none v new = record {
-  names = λ name. ap is_some (get-empty name_cmp name) ∙ sym (ap (λ (t : VolumeTable). list_any (has_name name) t.nodes) new);
-  stands = subst (λ (t : VolumeTable). IfSome (files_in t v.seen) (λ files. files ≡ empty)) (sym new) (nothing_stands v.table.layout (live_of v.seen));
-  opens = refl;
-}
+-- ---- files that go together
 
-rose_later : (a b c : ℕ) → b ≤ c → Rose a b → Rose a c
-rose_later a b c le h = omega arith
+put_good : (v new : VolumeTable) (name bytes : List ℕ) (r : Reply) → PutChanges v name bytes r new → IsGood v → IsGood new
+put_good v new name bytes reply.Done h good = good_added v new name bytes h good
+put_good v new name bytes (reply.Opened number) h good = subst IsGood (sym h) good
+put_good v new name bytes (reply.Read more_bytes) h good = subst IsGood (sym h) good
+put_good v new name bytes (reply.Closed fate) h good = subst IsGood (sym h) good
+put_good v new name bytes (reply.Sized size) h good = subst IsGood (sym h) good
+put_good v new name bytes (reply.Names names more) h good = subst IsGood (sym h) good
+put_good v new name bytes (reply.Told kind) h good = subst IsGood (sym h) good
+put_good v new name bytes (reply.Space used_now total) h good = subst IsGood (sym h) good
+put_good v new name bytes (reply.Groveled report) h good = subst IsGood (sym h) good
+put_good v new name bytes (reply.Ended closed unsettled) h good = subst IsGood (sym h) good
+put_good v new name bytes reply.InvalidOpen h good = subst IsGood (sym h) good
+put_good v new name bytes reply.InvalidParameter h good = subst IsGood (sym h) good
+put_good v new name bytes (reply.InvalidRequest fault) h good = subst IsGood (sym h) good
+put_good v new name bytes reply.InvalidDeviceRequest h good = subst IsGood (sym h) good
+put_good v new name bytes reply.AccessDenied h good = subst IsGood (sym h) good
+put_good v new name bytes reply.NotShared h good = subst IsGood (sym h) good
+put_good v new name bytes reply.NameInvalid h good = subst IsGood (sym h) good
+put_good v new name bytes reply.NotFound h good = subst IsGood (sym h) good
+put_good v new name bytes reply.Collision h good = subst IsGood (sym h) good
+put_good v new name bytes reply.InUse h good = subst IsGood (sym h) good
+put_good v new name bytes reply.NotSameDevice h good = subst IsGood (sym h) good
+put_good v new name bytes (reply.Unsettled left) h good = subst IsGood (sym h) good
+put_good v new name bytes (reply.Hindered by) h good = subst IsGood (sym h) good
 
-pub rose_earlier : (a b c : ℕ) → a ≤ b → Rose b c → Rose a c
-rose_earlier a b c le h = omega arith
+change_good : (v new : VolumeTable) (c : Command) (r : Reply) → Changes v c r new → IsGood v → IsGood new
+change_good v new (command.Put name bytes) r h good = put_good v new name bytes r h good
+change_good v new (command.Open name write) r h good = subst IsGood (sym h) good
+change_good v new (command.Read number at len) r h good = subst IsGood (sym h) good
+change_good v new (command.Write number at bytes) r h good = subst IsGood (sym h) good
+change_good v new (command.Size number len) r h good = subst IsGood (sym h) good
+change_good v new (command.Close number) r h good = subst IsGood (sym h) good
+change_good v new (command.Remove name) r h good = subst IsGood (sym h) good
+change_good v new (command.Rename old other) r h good = subst IsGood (sym h) good
+change_good v new (command.Stat name) r h good = subst IsGood (sym h) good
+change_good v new (command.List after) r h good = subst IsGood (sym h) good
+change_good v new (command.Tell name) r h good = subst IsGood (sym h) good
+change_good v new command.Space r h good = subst IsGood (sym h) good
+change_good v new (command.Fsctl code bytes) r h good = subst IsGood (sym h) good
+change_good v new command.Sync r h good = subst IsGood (sym h) good
+change_good v new command.Grovel r h good = subst IsGood (sym h) good
+change_good v new command.End r h good = subst IsGood (sym h) good
 
-later_hindered : (l : Layout) (blocks : ℕ) (P Q : Type 0) (r : Reply) → (P → Q) → IfHindered r (IsCauseOnNew l P blocks) → IfHindered r (IsCauseOnNew l Q blocks)
-later_hindered l blocks P Q (reply.Hindered (hindrance.Full needed used total)) f h = h
-later_hindered l blocks P Q (reply.Hindered (hindrance.TableFull needed cap)) f h = h
-later_hindered l blocks P Q (reply.Hindered hindrance.Disk) f h = f h
-later_hindered l blocks P Q (reply.Hindered (hindrance.Down at)) f h = h
-later_hindered l blocks P Q (reply.Hindered hindrance.Memory) f h = tt
-later_hindered l blocks P Q reply.Done f h = tt
-later_hindered l blocks P Q (reply.Ended closed) f h = tt
-later_hindered l blocks P Q reply.InvalidParameter f h = tt
-later_hindered l blocks P Q reply.AccessDenied f h = tt
-later_hindered l blocks P Q reply.Collision f h = tt
+-- a run leaves files that go together
+pub run_good : (s last : Stage) (es : List Entry) → IsRun s es last → IsGood s.table → IsGood last.table
+run_good s last [] h good = subst (λ (t : Stage). IsGood t.table) (sym h) good
+run_good s last (e ∷ es) h good = run_good h.0 last es h.2 (change_good s.table h.0.table e.command e.reply h.1.changes good)
 
-later_ended : (P Q : Type 0) (r : Reply) → (P → Q) → IfHindered r (IsCauseOfEnd P) → IfHindered r (IsCauseOfEnd Q)
-later_ended P Q (reply.Hindered (hindrance.Full needed used total)) f h = h
-later_ended P Q (reply.Hindered (hindrance.TableFull needed cap)) f h = h
-later_ended P Q (reply.Hindered hindrance.Disk) f h = h
-later_ended P Q (reply.Hindered (hindrance.Down at)) f h = f h
-later_ended P Q (reply.Hindered hindrance.Memory) f h = tt
-later_ended P Q reply.Done f h = tt
-later_ended P Q (reply.Ended closed) f h = tt
-later_ended P Q reply.InvalidParameter f h = tt
-later_ended P Q reply.AccessDenied f h = tt
-later_ended P Q reply.Collision f h = tt
+-- ---- one entry more
 
-later_answer : (l : Layout) (P Q : Type 0) (c : Command) (r : Reply) → (P → Q) → IsAnsweredOnNew l P c r → IsAnsweredOnNew l Q c r
-later_answer l P Q (command.Put name bytes) r f h = record { cause = later_hindered l _ P Q r f h.cause; full = h.full }
-later_answer l P Q command.End r f h = later_ended P Q r f h
+elapses_on : (a b c : VolumeView) → Elapses a.seen b.seen → Elapses b.seen c.seen → Elapses a.seen c.seen
+elapses_on a b c h g = record { size = g.size ∙ h.size; calls = omega (arith, h.calls, g.calls); faults = omega (arith, h.faults, g.faults) }
 
-down_earlier : (a b c : ℕ) (down : Option ℕ) → a ≤ b → IfSome down (λ _. Rose b c) → IfSome down (λ _. Rose a c)
-down_earlier a b c None le h = tt
-down_earlier a b c (Some at) le h = omega arith
+last_end : (ls : List Line) (l : Line) → ends_with_end (ls ++ l ∷ []) ≡ is_end l.command
+last_end [] l = refl
+last_end (m ∷ []) l = refl
+last_end (m ∷ n ∷ ls) l = last_end (n ∷ ls) l
 
--- an entry that was decided and answered at the same moment
-abbrev pub entry_of : ℕ → Command → Reply → ℕ → Entry
-entry_of client c r at = record { client = client; command = c; reply = r; decided = at; answered = at }
+map_push : (es : List Entry) (e : Entry) → map line_of (es ++ e ∷ []) ≡ map line_of es ++ line_of e ∷ []
+map_push [] e = refl
+map_push (x ∷ es) e = ap (λ (ls : List Line). line_of x ∷ ls) (map_push es e)
 
-joined : (first second : Entry) (before between after : List Entry) → before ≡ [] → between ≡ before ++ first ∷ [] → after ≡ between ++ second ∷ [] → after ≡ first ∷ second ∷ []
-joined first second before between after none one two = two ∙ ap (λ (es : List Entry). es ++ second ∷ []) (one ∙ ap (λ (es : List Entry). es ++ first ∷ []) none)
+is_the_end : (c : Command) → is_end c ≡ true → c ≡ command.End
+is_the_end (command.Put name bytes) e = absurd cc
+is_the_end (command.Open name write) e = absurd cc
+is_the_end (command.Read number at len) e = absurd cc
+is_the_end (command.Write number at bytes) e = absurd cc
+is_the_end (command.Size number len) e = absurd cc
+is_the_end (command.Close number) e = absurd cc
+is_the_end (command.Remove name) e = absurd cc
+is_the_end (command.Rename old new) e = absurd cc
+is_the_end (command.Stat name) e = absurd cc
+is_the_end (command.List after) e = absurd cc
+is_the_end (command.Tell name) e = absurd cc
+is_the_end command.Space e = absurd cc
+is_the_end (command.Fsctl code bytes) e = absurd cc
+is_the_end command.Sync e = absurd cc
+is_the_end command.Grovel e = absurd cc
+is_the_end command.End e = refl
 
-abbrev Allows : VolumeView → VolumeView → Command → Reply → Type 0
-Allows old new c r = (w : World) → ShowsWorld w old → (client : ℕ) → MayReply w client c r × ShowsWorld (world_with w client c r) new
+-- a reply says so exactly where a commit has failed
+same_down : (before now : Option ℕ) (s t : Stage) (c : Command) (r : Reply) → GoesDown before now s c r t → is_down r ≡ is_some now
+same_down (Some at) now s t c r h = ap is_down h.0 ∙ sym (ap is_some h.1)
+same_down None None s t c r h = h
+same_down None (Some at) s t c r h = ap is_down h.1
 
-pub ran : (old mid new : VolumeView) (client : ℕ) (c : Command) (name bytes : List ℕ) (first second : Reply) (at later : ℕ) (before between after : List Entry)
-    → before ≡ [] → between ≡ before ++ entry_of client c first at ∷ [] → after ≡ between ++ entry_of client command.End second later ∷ []
-    → c ≡ command.Put name bytes → old.table ≡ empty_table old.table.layout
-    → Allows old mid (command.Put name bytes) first
-    → (old.table ≡ empty_table old.table.layout → IsPutOnNew old.table.layout (Rose old.seen.faults mid.seen.faults) name bytes first) → Elapses old.seen mid.seen
-    → Allows mid new command.End second
-    → IfHindered second (IsCauseOfEnd (Rose mid.seen.faults new.seen.faults)) → (new.down ≡ None → new.is_changed ≡ false)
-    → IfSome new.down (λ _. Rose mid.seen.faults new.seen.faults) → Elapses mid.seen new.seen
-    → HasRun old new (record { client = client; command = c } ∷ []) after
-ran old mid new client c name bytes first second at later before between after none one two is_put empty put put_cause put_elapses end end_cause settled down end_elapses =
-    let start = put no_files (shows_none old empty) client in
-    let finish = end (world_with no_files client (command.Put name bytes) first) start.1 client in
-    let cause = put_cause empty in
-    let es = joined (entry_of client c first at) (entry_of client command.End second later) before between after none one two in
-    let all : HasRun old new (record { client = client; command = command.Put name bytes } ∷ []) (entry_of client (command.Put name bytes) first at ∷ entry_of client command.End second later ∷ []) = record {
-      order = refl;
-      legal = (start.0, (finish.0, tt));
-      shows = finish.1;
-      settled = settled;
-      answered = (record { cause = later_hindered old.table.layout _ _ _ first (λ h. rose_later old.seen.faults mid.seen.faults new.seen.faults end_elapses.faults h) cause.cause; full = cause.full }, (later_ended _ _ second (λ h. rose_earlier old.seen.faults mid.seen.faults new.seen.faults put_elapses.faults h) end_cause, tt));
-      elapses = record { size = end_elapses.size ∙ put_elapses.size; calls = omega (arith, put_elapses.calls, end_elapses.calls); faults = omega (arith, put_elapses.faults, end_elapses.faults) };
-      down = down_earlier old.seen.faults mid.seen.faults new.seen.faults new.down put_elapses.faults down;
-    } in
-    subst (λ (x : List Entry). HasRun old new (record { client = client; command = c } ∷ []) x) (sym es)
-    (subst (λ (x : Command). HasRun old new (record { client = client; command = x } ∷ []) (entry_of client x first at ∷ entry_of client command.End second later ∷ [])) (sym is_put) all)
+down_more : (before now : Option ℕ) (s t : Stage) (c : Command) (r : Reply) → GoesDown before now s c r t → (is_some before || (is_down r || false)) ≡ is_some now
+down_more (Some at) now s t c r h = sym (ap is_some h.1)
+down_more None now s t c r h = by (is_down r) (same_down None now s t c r h)
+  where
+    by : (b : Bool) → b ≡ is_some now → (b || false) ≡ is_some now
+    by true e = e
+    by false e = e
 
--- no line ran
-pub ran_none : (v : VolumeView) → v.table ≡ empty_table v.table.layout → v.is_changed ≡ false → v.down ≡ None → HasRun v v [] []
-ran_none v new clean up = record {
-  order = refl;
-  legal = tt;
-  shows = shows_none v new;
-  settled = λ h. clean;
-  answered = tt;
+-- the count has risen where a commit has failed
+since_more : (first : ℕ) (old new : VolumeView) (c : Command) (r : Reply) → Elapses old.seen new.seen → GoesDown old.down new.down (stage_of old) c r (stage_of new) → IsSince first old → IsSince first new
+since_more first old new c r elapses h since = record { early = omega (arith, since.early, elapses.faults); down = by old.down new.down h since.down }
+  where
+    by : (before now : Option ℕ) → GoesDown before now (stage_of old) c r (stage_of new) → IfSome before (λ at. Rose first old.seen.faults) → IfSome now (λ at. Rose first new.seen.faults)
+    by (Some at) None h rose = tt
+    by (Some at) (Some now) h rose = let later = elapses.faults in omega (arith, rose, later)
+    by None None h rose = tt
+    by None (Some now) h rose = let early = since.early in let risen = h.2 in omega (arith, early, risen)
+
+-- nothing ran
+pub ran_none : (v : VolumeView) → HasRun v v []
+ran_none v = record {
+  world = λ w h. (tt, h);
+  kept = refl;
+  since = λ before h. h;
   elapses = record { size = refl; calls = omega arith; faults = omega arith };
-  down = subst (λ (o : Option ℕ). IfSome o (λ _. Rose v.seen.faults v.seen.faults)) (sym up) tt;
+  down = λ up. sym (ap is_some up);
+  settled = λ clean end up. clean;
 }
 
-nothing_left : (rest : List Line) → length rest + 1 ≤ 1 → rest ≡ []
-nothing_left [] h = refl
-nothing_left (x ∷ xs) h = absurd (omega arith)
+-- what ran, and one command more
+pub ran_more : (old mid new : VolumeView) (es after : List Entry) (l : Line) (r : Reply) (at : ℕ) → HasRun old mid es → Decides mid new l.client l.command r → after ≡ es ++ entry_of l r at ∷ [] → at ≡ new.seen.calls → HasRun old new after
+ran_more old mid new es after l r at ran d is at_is =
+    let e = entry_of l r at in
+    subst (λ (xs : List Entry). HasRun old new xs) (sym is) (record {
+      world = λ w h.
+          let before = ran.world w h in
+          let step = d.world (world_after w es) before.1 in
+          (IsLegal-push w es e before.0 step.0, subst (λ (x : World). ShowsWorld x new) (sym (world_after-push w es e)) step.1);
+      kept = run_push (stage_of old) (stage_of mid) (stage_of new) es e ran.kept (record {
+        fits = d.fits;
+        changes = d.changes;
+        down = d.down;
+        faults = d.elapses.faults;
+        calls = d.elapses.calls;
+        decided = at_is;
+        answered = at_is;
+      });
+      since = λ before h. since_more before mid new l.command r d.elapses d.down (ran.since before h);
+      elapses = elapses_on old mid new ran.elapses d.elapses;
+      down = λ up.
+          any-append (λ (x : Entry). is_down x.reply) es (e ∷ []) ∙ ap (λ (b : Bool). b || (is_down r || false)) (ran.down up)
+          ∙ down_more mid.down new.down (stage_of mid) (stage_of new) l.command r d.down;
+      settled = λ clean end up. d.settled (is_the_end l.command (sym (ap ends_with_end (map_push es e) ∙ last_end (map line_of es) (line_of e)) ∙ end)) up;
+    })
 
--- the last of at most one line is the only one
-pub only_line : (lines rest : List Line) (line : Line) → lines ≡ rest ++ line ∷ [] → length lines ≤ 1 → line ∷ [] ≡ lines
-only_line lines rest line e few =
-    let size : length lines ≡ length rest + 1 = ap length e ∙ length-append rest (line ∷ []) in
-    sym (e ∙ ap (λ (ls : List Line). ls ++ line ∷ []) (nothing_left rest (omega arith)))
+-- ---- the order of a script's lines ends with an end
 
-pub no_line : (lines rest : List Line) → lines ≡ rest ++ [] → length rest ≡ 0 → [] ≡ lines
-no_line lines [] e none = sym e
-no_line lines (x ∷ rest) e none = absurd (omega arith)
+ends_after : (l : Line) (ls : List Line) → (ls ≡ [] → is_end l.command ≡ true) → ends_with_end ls ≡ true → ends_with_end (l ∷ ls) ≡ true
+ends_after l [] none h = none refl
+ends_after l (m ∷ ls) none h = h
 
-pub ran_none_of : (v : VolumeView) (lines : List Line) (entries : List Entry) → [] ≡ lines → entries ≡ [] → v.table ≡ empty_table v.table.layout → v.is_changed ≡ false → v.down ≡ None → HasRun v v lines entries
-ran_none_of v lines entries e f new clean up =
-    subst (λ (ls : List Line). HasRun v v ls entries) e (subst (λ (es : List Entry). HasRun v v [] es) (sym f) (ran_none v new clean up))
+some_left : (client : ℕ) (ls : List Line) → list_any (λ m. m.client == client) ls ≡ true → exec_order ls ≡ [] → ⊥
+some_left client [] h e = absurd cc
+some_left client (l ∷ ls) h e = by (list_any (λ m. m.client == l.client) ls) e
+  where
+    by : (b : Bool) → (if b then l ∷ exec_order ls else l ∷ end_of l.client ∷ exec_order ls) ≡ [] → ⊥
+    by true e = absurd cc
+    by false e = absurd cc
 
-pub ran_one_of : (old new : VolumeView) (lines : List Line) (line : Line) (entries : List Entry) → line ∷ [] ≡ lines → HasRun old new (line ∷ []) entries → HasRun old new lines entries
-ran_one_of old new lines line entries e h = subst (λ (ls : List Line). HasRun old new ls entries) e h
+pub order_ends : (lines : List Line) → ends_with_end (exec_order lines) ≡ true
+order_ends [] = refl
+order_ends (l ∷ ls) = by (list_any (λ m. m.client == l.client) ls) refl (order_ends ls)
+  where
+    by : (b : Bool) → list_any (λ m. m.client == l.client) ls ≡ b → ends_with_end (exec_order ls) ≡ true → ends_with_end (if b then l ∷ exec_order ls else l ∷ end_of l.client ∷ exec_order ls) ≡ true
+    by true e rest = ends_after l (exec_order ls) (λ none. absurd (some_left l.client ls e none)) rest
+    by false e rest = ends_after (end_of l.client) (exec_order ls) (λ none. refl) rest
 
--- what a cause says of a count says it of an earlier one
-pub later_answers : (l : Layout) (P Q : Type 0) (es : List Entry) → (P → Q) → AllByRecursion (λ e. IsAnsweredOnNew l P e.command e.reply) es → AllByRecursion (λ e. IsAnsweredOnNew l Q e.command e.reply) es
-later_answers l P Q [] f h = tt
-later_answers l P Q (e ∷ es) f h = (later_answer l P Q e.command e.reply f h.0, later_answers l P Q es f h.1)
+-- ---- lines that are taken from the end of a list
+
+pub one_more : (entries after : List Entry) (order rest lines : List Line) (l : Line) (r : Reply) (at : ℕ) → after ≡ entries ++ entry_of l r at ∷ [] → order ≡ rest ++ l ∷ []
+    → map line_of entries ++ reverse order ≡ lines → map line_of after ++ reverse rest ≡ lines
+one_more entries after order rest lines l r at is parts h =
+    ap (λ (es : List Entry). map line_of es ++ reverse rest) is ∙ ap (λ (ls : List Line). ls ++ reverse rest) (map_push entries (entry_of l r at))
+    ∙ append_assoc (map line_of entries) (l ∷ []) (reverse rest)
+    ∙ ap (λ (ls : List Line). map line_of entries ++ ls) (sym (reverse-append rest (l ∷ [])) ∙ ap reverse (sym parts)) ∙ h
+
+pub room_more : (order rest : List Line) (l : Line) (room now : ℕ) → order ≡ rest ++ l ∷ [] → length order ≤ room → room ≤ now + 1 → length rest ≤ now
+room_more order rest l room now is enough one = let size = ap length is ∙ length-append rest (l ∷ []) in omega (arith, size, enough, one)
+
+pub runs_rest : (order rest : List Line) (l : Line) → order ≡ rest ++ l ∷ [] → All (λ x. MayRun x.command) order → All (λ x. MayRun x.command) rest
+runs_rest order rest l is runs = subst (All (λ (x : Line). MayRun x.command)) (take-append_seam rest (l ∷ [])) (All-take (λ (x : Line). MayRun x.command) (length rest) (rest ++ l ∷ []) (subst (All (λ (x : Line). MayRun x.command)) is runs))

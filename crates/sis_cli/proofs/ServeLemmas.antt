@@ -1,262 +1,578 @@
 -- What a whole run leaves, from what its parts do.
-use Rattle.std.proofs.Common.{◌≡◌, ◌⊎◌, inl, inr, ℕ, ◌≤◌, false, List, [], map, Option, None, Some, Ok, Err, refl, sym, ap, subst, ◌∙◌, arith}
-use Rattle.std.specs.Prelude.{IfSome, ◌≢◌}
+use Rattle.std.proofs.Common.{◌≡◌, ◌⊎◌, inl, inr, ℕ, ◌*◌, ◌≤◌, false, List, [], length, map, Option, None, Some, Result, Ok, Err, refl, sym, ap, subst, ◌∙◌, arith, append-nil, ◌+◌}
+use Rattle.std.specs.Prelude.{IfSome, IsSome, ◌↔◌, ◌≢◌, replicate, is_some, true, All, ⊤}
 use Rattle.std.specs.Option.{option_map}
-use Rattle.sis_disk.specs.Record.{Seen, Rose, live_of}
+use Rattle.std.specs.FinMap.{get-empty}
+use Rattle.sis_name.specs.Units.{name_cmp}
+use Rattle.sis_disk.specs.Record.{Seen, DiskRecord, Rose, live_of, live_bytes}
 use Rattle.sis_disk.specs.Streams.{Appended, AppendedFront}
+use Rattle.sis_disk.specs.Superblock.{ImageFault}
 use Rattle.sis_disk.specs.declared.layout.Layout.{Layout}
 use Rattle.sis_disk.proofs.Appends.{AppendedFront-none}
-use Rattle.sis_model.specs.World.{Files, no_files}
+use Rattle.sis_model.specs.World.{World, unopened}
 use Rattle.sis_model.specs.History.{world_after}
 use Rattle.sis_model.specs.Order.{line_of, exec_order, commands_of}
 use Rattle.sis_model.proofs.Orders.{commands-exec_order}
 use Rattle.sis_model.specs.declared.history.Entry.{Entry}
 use Rattle.sis_model.specs.declared.history.Line.{Line}
-use Rattle.sis_table.specs.Volume.{VolumeTable, empty_table}
+use Rattle.sis_table.specs.Volume.{VolumeTable, IsTable, empty_table}
 use Rattle.sis_table.specs.Content.{files_of}
+use Rattle.sis_table.specs.Good.{IsGood, first_defect}
 use Rattle.sis_table.specs.Image.{Holds, image_at}
+use Rattle.sis_table.proofs.GoodLemmas.{good_law}
 use Rattle.sis_script.specs.Printed.{printed}
-use Rattle.sis_script.specs.Script.{Parts, script_of, FailsAs}
+use Rattle.sis_script.specs.Script.{Parts, script_of, FailsAs, IsClient, IsBuilt}
 use Rattle.sis_script.specs.declared.faults.ScriptFault.{ScriptFault}
 use Rattle.sis_script.specs.declared.faults.ScriptFault.TheVariants as script
 use Rattle.sis_volume.specs.View.{VolumeView}
 use Rattle.sis_volume.specs.Opening as opening_words
-use Rattle.sis_volume.specs.Opening.{Caused}
+use Rattle.sis_volume.specs.Opening.{Caused, OnlyReads}
+use Rattle.sis_volume.proofs.OpeningReads.{no_reads}
+use Rattle.sis_script.specs.Taken.{HasRead, TakesAtMost}
+use Rattle.sis_script.specs.declared.limits.TheConstants.{MOST_BYTES}
+use Rattle.sis_cli.specs.Stages.{any_down, Stage}
 use Rattle.sis_volume.specs.declared.fault.OpenFault.{OpenFault}
 use Rattle.sis_volume.specs.declared.fault.OpenFault.TheVariants as opening
+use Rattle.sis_cli.specs.Words.{Words, Fault, Fails}
 use Rattle.sis_cli.specs.Exit.{risen, exit_of_usage, exit_of_script, exit_of_opening}
+use Rattle.sis_cli.specs.declared.usage.Verb.{Verb}
+use Rattle.sis_cli.specs.declared.usage.Verb.TheVariants as verb
 use Rattle.sis_cli.specs.declared.usage.UsageFault.{UsageFault}
 use Rattle.sis_cli.specs.declared.usage.UsageFault.TheVariants as usage
-use Rattle.sis_cli.specs.Session.{HasRun}
-use Rattle.sis_cli.specs.Run.{AreWords, IsScript, IsImage, Counts, ExitCause, IsAccepted, RunsScript, HasCalls, AreAnswered, HoldsFilesAfter, CauseOfEnd, LeavesRun, Serves}
+use Rattle.sis_cli.specs.Session.{ShowsWorld, IsSince, HasRun, ends_with_end, stage_of}
+use Rattle.std.proofs.lemmas.List.{length-replicate}
+use Rattle.sis_cli.specs.Run.{TellsDown, IsExec, IfExec, IfFormat, IsScript, IsImage, Counts, ExecCause, FormatCause, ExitCause, MayExec, MayFormat, IsAccepted, RunsScript, HasCalls, least_layout, table_in, table_or, world_in, untold, Starts, HoldsFiles, IsHistory, CauseOfEnd, LeavesRun, Serves, WritesAll, IfKept, Spares, TakesScript, IfRefused}
 use Rattle.sis_cli.specs.declared.exit.Exit.{Exit}
 use Rattle.sis_cli.specs.declared.exit.Exit.TheVariants as exit
-use Rattle.sis_cli.proofs.Runs.{later_answers}
+use Rattle.sis_cli.proofs.Runs.{run_good, order_ends}
+use Rattle.sis_cli.proofs.Worlds.{shows_files}
+use Rattle.sis_cli.proofs.Sizes.{sizes-files_of}
 
-holds_by : (t : VolumeTable) (files : Files) (live : Option (List ℕ)) → IfSome (option_map (files_of t) live) (λ fs. fs ≡ files) → IfSome live (λ m. Holds m t)
-    → IfSome live (λ m. (v : VolumeTable) × Holds m v × (files ≡ files_of v m))
-holds_by t files None stands holds = tt
-holds_by t files (Some m) stands holds = (t, holds, sym stands)
+-- ---- lines that ran
+
+holds_by : (t : VolumeTable) (w : World) (live : Option (List ℕ)) → IsGood t → IfSome (option_map (files_of t) live) (λ files. files ≡ w.files) → IfSome live (λ m. Holds m t) → IfSome live (λ m. HoldsFiles m t w)
+holds_by t w None good stands holds = tt
+holds_by t w (Some m) good stands holds = record { holds = holds; good = good; stands = sym stands }
+
+rose_from : (a a' b c : ℕ) → a ≡ b → a' ≡ c → Rose b c → Rose a a'
+rose_from a a' b c e f h = omega arith
+
+pub is_since : (before : ℕ) (v : VolumeView) → before ≤ v.seen.faults → v.down ≡ None → IsSince before v
+is_since before v early up = record { early = early; down = subst (λ (o : Option ℕ). IfSome o (λ at. Rose before v.seen.faults)) (sym up) tt }
+
+none_of : (o : Option ℕ) → is_some o ≡ false → o ≡ None
+none_of None e = refl
+none_of (Some at) e = absurd cc
+
+kept_by : (status : Exit) (entries : List Entry) (P : Type 0) → (any_down entries ≡ false → P) → (status ≡ exit.Done → any_down entries ≡ false) → IfKept status entries P
+kept_by exit.Done entries P p done = p (done refl)
+kept_by (exit.Usage at kind) entries P p done = tt
+kept_by (exit.Script line kind) entries P p done = tt
+kept_by (exit.ScriptLimit kind count) entries P p done = tt
+kept_by (exit.Image at kind) entries P p done = tt
+kept_by (exit.Bad kind file index) entries P p done = tt
+kept_by (exit.Disk count) entries P p done = tt
+kept_by exit.Sink entries P p done = p
+kept_by exit.Source entries P p done = tt
+kept_by exit.Memory entries P p done = λ some. p
+
+told_by : (status : Exit) (entries : List Entry) (down : Option ℕ) → any_down entries ≡ is_some down → (status ≡ exit.Done → down ≡ None) → ((count : ℕ) → status ≡ exit.Disk count → is_some down ≡ true) → TellsDown status ⊥ entries
+told_by exit.Done entries down same up went = same ∙ ap is_some (up refl)
+told_by (exit.Usage at kind) entries down same up went = tt
+told_by (exit.Script line kind) entries down same up went = tt
+told_by (exit.ScriptLimit kind count) entries down same up went = tt
+told_by (exit.Image at kind) entries down same up went = tt
+told_by (exit.Bad kind file index) entries down same up went = tt
+told_by (exit.Disk count) entries down same up went = inl (same ∙ went count refl)
+told_by exit.Sink entries down same up went = tt
+told_by exit.Source entries down same up went = tt
+told_by exit.Memory entries down same up went = tt
 
 -- lines that ran, and their printed history
 pub leaves_ran : (old new : VolumeView) (now : Seen) (before : ℕ) (lines : List Line) (entries : List Entry) (n : Counts) (held held_now : Option (List ℕ)) (status : Exit)
-    → n.disk ≡ before → n.disk_now ≡ now.faults → before ≤ old.seen.faults → HasRun old new lines entries
+    → n.disk ≡ before → n.disk_now ≡ now.faults → IsSince before old → IsGood old.table → old.is_changed ≡ false → old.down ≡ None
+    → HasRun old new entries → map line_of entries ≡ exec_order lines
     → now ≡ new.seen → (new.is_changed ≡ false → IfSome (live_of new.seen) (λ m. Holds m new.table))
-    → (status ≡ exit.Done → new.down ≡ None) → (status ≡ exit.Done → Appended held held_now (printed entries)) → AppendedFront held held_now (printed entries) → CauseOfEnd n status
-    → LeavesRun old.table.layout lines n held held_now (live_of now) status entries
-leaves_ran old new now before lines entries n held held_now status is_before is_now le ran same holds up all front cause =
-    let faults : n.disk_now ≡ new.seen.faults = is_now ∙ ap (λ (s : Seen). s.faults) same in
+    → (status ≡ exit.Done → new.down ≡ None) → ((count : ℕ) → status ≡ exit.Disk count → is_some new.down ≡ true)
+    → WritesAll status (Appended held held_now (printed entries)) → AppendedFront held held_now (printed entries) → CauseOfEnd n status
+    → LeavesRun old lines n held held_now now status entries
+leaves_ran old new now before lines entries n held held_now status is_before is_now since good clean before_up ran order same holds up went written front cause =
+    let is_down = ran.down before_up in
     record {
-      legal = ran.legal;
-      order = inr ran.order;
-      all = λ other. ran.order;
-      replies = later_answers old.table.layout _ _ entries (λ h. rose_from n.disk n.disk_now old.seen.faults new.seen.faults (omega arith) faults h) ran.answered;
-      printed_all = all;
+      last = stage_of new;
+      order = inr order;
+      all = λ other. order;
+      kept = ran.kept;
+      ends = λ some. record { faults = ap (λ (s : Seen). s.faults) (sym same); calls = ap (λ (s : Seen). s.calls) (sym same) };
+      world = λ w h. (
+        (ran.world w h).0,
+        kept_by status entries _ (λ none.
+            subst (λ (s : Seen). IfSome (live_of s) (λ m. HoldsFiles m new.table (world_after w entries))) (sym same)
+            (holds_by new.table (world_after w entries) (live_of new.seen) (run_good (stage_of old) (stage_of new) entries ran.kept good) (ran.world w h).1.stands
+            (holds (ran.settled clean (ap ends_with_end order ∙ order_ends lines) (none_of new.down (sym is_down ∙ none)))))) (λ done. is_down ∙ ap is_some (up done)),
+      );
+      written = written;
       front = front;
-      image = λ done. subst (λ (s : Seen). IfSome (live_of s) (HoldsFilesAfter entries)) (sym same) (holds_by new.table (world_after no_files entries).files (live_of new.seen) ran.shows.stands (holds (ran.settled (up done))));
+      down = told_by status entries new.down is_down up went;
       cause = cause;
     }
-  where
-    rose_from : (a a' b c : ℕ) → a ≤ b → a' ≡ c → Rose b c → Rose a a'
-    rose_from a a' b c le e h = omega arith
 
 -- no line ran, for want of memory
-pub leaves_none : (l : Layout) (lines : List Line) (n : Counts) (held live_now : Option (List ℕ)) (status : Exit) (entries : List Entry) → status ≡ exit.Memory → entries ≡ []
-    → LeavesRun l lines n held held live_now status entries
-leaves_none l lines n held live_now status entries is none =
-    subst (λ (s : Exit). LeavesRun l lines n held held live_now s entries) (sym is)
-    (subst (λ (es : List Entry). LeavesRun l lines n held held live_now exit.Memory es) (sym none) (record {
-      legal = tt;
-      order = inl refl;
+pub leaves_none : (v : VolumeView) (lines : List Line) (n : Counts) (held : Option (List ℕ)) (now : Seen) (status : Exit) (entries : List Entry) → status ≡ exit.Memory → entries ≡ [] → now ≡ v.seen
+    → LeavesRun v lines n held held now status entries
+leaves_none v lines n held now status entries is none same =
+    subst (λ (s : Exit). LeavesRun v lines n held held now s entries) (sym is)
+    (subst (λ (es : List Entry). LeavesRun v lines n held held now exit.Memory es) (sym none) (record {
+      last = stage_of v;
+      order = inl (refl, same);
       all = λ other. absurd (other refl);
-      replies = tt;
-      printed_all = λ done. absurd cc;
+      kept = refl;
+      ends = λ some. absurd (some refl);
+      world = λ w h. (tt, λ some. absurd (some refl));
+      written = tt;
       front = AppendedFront-none held [];
-      image = λ done. absurd cc;
+      down = tt;
       cause = tt;
     }))
 
-script_runs : (bytes : List ℕ) (parts : Parts) (entries : List Entry) → script_of bytes ≡ Ok parts → map line_of entries ≡ exec_order parts.lines → RunsScript bytes entries
-script_runs bytes parts entries is order = record {
+-- ---- the calls of a run
+
+-- what a script that was read keeps
+pub record IsRead (left : Option (List ℕ)) (parts : Parts) : Type 0 where
+  pub says : IfSome left (λ bytes. script_of bytes ≡ Ok parts)
+  pub clients : All (λ l. IsClient l.client) parts.lines
+  pub built : All (λ l. IsBuilt l.command) parts.lines
+
+script_runs : (left : Option (List ℕ)) (parts : Parts) (entries : List Entry) → IsRead left parts → map line_of entries ≡ exec_order parts.lines → RunsScript left entries
+script_runs left parts entries is order = record {
   parts = parts;
-  is_script = is;
+  is_script = is.says;
+  clients = is.clients;
+  built = is.built;
   order = order;
   calls = λ client. ap (commands_of client) order ∙ commands-exec_order client parts.lines;
 }
 
-either_runs : (bytes : List ℕ) (parts : Parts) (entries : List Entry) → script_of bytes ≡ Ok parts → (entries ≡ []) ⊎ (map line_of entries ≡ exec_order parts.lines)
-    → RunsScript bytes entries ⊎ (entries ≡ [])
-either_runs bytes parts entries is (inl none) = inr none
-either_runs bytes parts entries is (inr order) = inl (script_runs bytes parts entries is order)
+either_runs : (left : Option (List ℕ)) (parts : Parts) (entries : List Entry) (unopened same : Type 0) → IsRead left parts → (same → unopened) → ((entries ≡ []) × same) ⊎ (map line_of entries ≡ exec_order parts.lines)
+    → RunsScript left entries ⊎ ((entries ≡ []) × unopened)
+either_runs left parts entries unopened same is only (inl none) = inr (none.0, only none.1)
+either_runs left parts entries unopened same is only (inr order) = inl (script_runs left parts entries is order)
 
 -- the calls of a run whose lines ran, or that had no memory for them
-calls_ran : (bytes : List ℕ) (parts : Parts) (m : Counts) (status : Exit) (unopened : Type 0) (entries : List Entry) → script_of bytes ≡ Ok parts → CauseOfEnd m status
-    → (entries ≡ []) ⊎ (map line_of entries ≡ exec_order parts.lines) → (status ≢ exit.Memory → map line_of entries ≡ exec_order parts.lines) → HasCalls status unopened bytes entries
-calls_ran bytes parts m exit.Done unopened entries is cause either all = script_runs bytes parts entries is (all (λ e. cc))
-calls_ran bytes parts m exit.Sink unopened entries is cause either all = script_runs bytes parts entries is (all (λ e. cc))
-calls_ran bytes parts m (exit.Disk count) unopened entries is cause either all = inl (script_runs bytes parts entries is (all (λ e. cc)))
-calls_ran bytes parts m exit.Memory unopened entries is cause either all = either_runs bytes parts entries is either
-calls_ran bytes parts m (exit.Usage at kind) unopened entries is cause either all = absurd cause
-calls_ran bytes parts m (exit.Script line kind) unopened entries is cause either all = absurd cause
-calls_ran bytes parts m (exit.ScriptLimit kind count) unopened entries is cause either all = absurd cause
-calls_ran bytes parts m (exit.Image at kind) unopened entries is cause either all = absurd cause
-calls_ran bytes parts m exit.Source unopened entries is cause either all = absurd cause
-
-some_calls : (left : Option (List ℕ)) (parts : Parts) (m : Counts) (status : Exit) (unopened : Type 0) (entries : List Entry) → IfSome left (λ bytes. script_of bytes ≡ Ok parts) → CauseOfEnd m status
-    → (entries ≡ []) ⊎ (map line_of entries ≡ exec_order parts.lines) → (status ≢ exit.Memory → map line_of entries ≡ exec_order parts.lines) → IfSome left (λ bytes. HasCalls status unopened bytes entries)
-some_calls None parts m status unopened entries is cause either all = tt
-some_calls (Some bytes) parts m status unopened entries is cause either all = calls_ran bytes parts m status unopened entries is cause either all
+calls_ran : (left : Option (List ℕ)) (parts : Parts) (m : Counts) (status : Exit) (unopened same : Type 0) (entries : List Entry) → IsRead left parts → CauseOfEnd m status → (same → unopened)
+    → ((entries ≡ []) × same) ⊎ (map line_of entries ≡ exec_order parts.lines) → (status ≢ exit.Memory → map line_of entries ≡ exec_order parts.lines) → HasCalls status unopened left entries
+calls_ran left parts m exit.Done unopened same entries is cause only either all = script_runs left parts entries is (all (λ e. cc))
+calls_ran left parts m (exit.Usage at kind) unopened same entries is cause only either all = absurd cause
+calls_ran left parts m (exit.Script line kind) unopened same entries is cause only either all = absurd cause
+calls_ran left parts m (exit.ScriptLimit kind count) unopened same entries is cause only either all = absurd cause
+calls_ran left parts m (exit.Image at kind) unopened same entries is cause only either all = absurd cause
+calls_ran left parts m (exit.Bad kind file index) unopened same entries is cause only either all = absurd cause
+calls_ran left parts m (exit.Disk count) unopened same entries is cause only either all = inl (script_runs left parts entries is (all (λ e. cc)))
+calls_ran left parts m exit.Sink unopened same entries is cause only either all = script_runs left parts entries is (all (λ e. cc))
+calls_ran left parts m exit.Source unopened same entries is cause only either all = absurd cause
+calls_ran left parts m exit.Memory unopened same entries is cause only either all = either_runs left parts entries unopened same is only either
 
 is_script : (left : Option (List ℕ)) (parts : Parts) → IfSome left (λ bytes. script_of bytes ≡ Ok parts) → IsScript left
 is_script None parts is = tt
 is_script (Some bytes) parts is = (parts, is)
 
-is_image : (live : Option (List ℕ)) (v : VolumeTable) → IfSome live (λ m. image_at m ≡ Ok v) → IsImage live
-is_image None v is = tt
-is_image (Some m) v is = (v, is)
+is_image : (live : Option (List ℕ)) (v : VolumeTable) → IsGood v → IfSome live (λ m. image_at m ≡ Ok v) → IsImage live
+is_image None v good is = tt
+is_image (Some m) v good is = (v, is, good)
 
-new_image : (live : Option (List ℕ)) (v : VolumeTable) → v ≡ empty_table v.layout → IfSome live (λ m. image_at m ≡ Ok v) → IfSome live (λ m. image_at m ≡ Ok (empty_table v.layout))
-new_image None v e is = tt
-new_image (Some m) v e is = is ∙ ap (λ (x : VolumeTable). Ok x) e
+cause_ran : (left live : Option (List ℕ)) (n m : Counts) (status : Exit) → m.disk ≡ n.disk → m.disk_now ≡ n.disk_now → m.sink ≡ n.sink → m.sink_now ≡ n.sink_now
+    → IsScript left → IsImage live → CauseOfEnd m status → ExecCause left live n status
+cause_ran left live n m exit.Done a b c d says shows h = (says, shows)
+cause_ran left live n m (exit.Disk count) a b c d says shows h = (says, omega (arith, h.0), h.1 ∙ ap (λ (x : ℕ). risen x m.disk_now) a ∙ ap (λ (x : ℕ). risen n.disk x) b)
+cause_ran left live n m exit.Sink a b c d says shows h = (says, shows, omega (arith, h))
+cause_ran left live n m exit.Memory a b c d says shows h = tt
+cause_ran left live n m (exit.Usage at kind) a b c d says shows h = absurd h
+cause_ran left live n m (exit.Script line kind) a b c d says shows h = absurd h
+cause_ran left live n m (exit.ScriptLimit kind count) a b c d says shows h = absurd h
+cause_ran left live n m (exit.Image at kind) a b c d says shows h = absurd h
+cause_ran left live n m (exit.Bad kind file index) a b c d says shows h = absurd h
+cause_ran left live n m exit.Source a b c d says shows h = absurd h
 
-cause_ran : (words : List (List ℕ)) (left live : Option (List ℕ)) (n m : Counts) (status : Exit) → m.disk ≡ n.disk → m.disk_now ≡ n.disk_now → m.sink ≡ n.sink → m.sink_now ≡ n.sink_now
-    → AreWords words → IsScript left → IsImage live → CauseOfEnd m status → ExitCause words left live n status
-cause_ran words left live n m exit.Done a b c d are says shows h = (are, says, shows)
-cause_ran words left live n m (exit.Disk count) a b c d are says shows h = (are, says, omega (arith, h.0), h.1 ∙ ap (λ (x : ℕ). risen x m.disk_now) a ∙ ap (λ (x : ℕ). risen n.disk x) b)
-cause_ran words left live n m exit.Sink a b c d are says shows h = (are, says, shows, omega (arith, h))
-cause_ran words left live n m exit.Memory a b c d are says shows h = tt
-cause_ran words left live n m (exit.Usage at kind) a b c d are says shows h = absurd h
-cause_ran words left live n m (exit.Script line kind) a b c d are says shows h = absurd h
-cause_ran words left live n m (exit.ScriptLimit kind count) a b c d are says shows h = absurd h
-cause_ran words left live n m (exit.Image at kind) a b c d are says shows h = absurd h
-cause_ran words left live n m exit.Source a b c d are says shows h = absurd h
+-- ---- the history of a run
+
+-- an opened volume shows the files of the image's bytes, or of any where the disk tells none
+pub record Opens (live : Option (List ℕ)) (v : VolumeView) : Type 0 where
+  pub world : World
+  pub shows : ShowsWorld world v
+  pub starts : Starts live world v.table
+
+opens_as : (told : Option DiskRecord) (v : VolumeView) (size : ℕ) → live_of v.seen ≡ option_map live_bytes told → size ≡ 4096 * v.table.layout.total
+    → IfSome told (λ r. length (live_bytes r) ≡ size) → IsTable v.table → IfSome (option_map live_bytes told) (λ m. image_at m ≡ Ok v.table) → Opens (option_map live_bytes told) v
+opens_as None v size is all sized is_table image =
+    let zeros = replicate (4096 * v.table.layout.total) 0 in
+    record {
+      world = unopened v.table.layout.letter (files_of v.table zeros);
+      shows = shows_files v zeros (λ q. sizes-files_of v.table zeros q is_table (length-replicate (4096 * v.table.layout.total) 0)) (subst (λ (o : Option (List ℕ)). IfSome (option_map (files_of v.table) o) (λ files. files ≡ files_of v.table zeros)) (sym is) tt);
+      starts = shows_files (untold v.table) zeros (λ q. sizes-files_of v.table zeros q is_table (length-replicate (4096 * v.table.layout.total) 0)) tt;
+    }
+opens_as (Some r) v size is all sized is_table image =
+    let m = live_bytes r in
+    let table : v.table ≡ table_in m = ap table_or (sym image) in
+    record {
+      world = unopened v.table.layout.letter (files_of v.table m);
+      shows = shows_files v m (λ q. sizes-files_of v.table m q is_table (sized ∙ all)) (subst (λ (o : Option (List ℕ)). IfSome (option_map (files_of v.table) o) (λ files. files ≡ files_of v.table m)) (sym is) refl);
+      starts = (ap (λ (t : VolumeTable). unopened t.layout.letter (files_of t m)) table, table);
+    }
+
+-- the table without files shows a world without files
+none_shown : ShowsWorld (unopened least_layout.letter (files_of (empty_table least_layout) [])) (untold (empty_table least_layout))
+none_shown = shows_files (untold (empty_table least_layout)) [] (λ q. ap (option_map length) (get-empty name_cmp q)) tt
+
+-- the lines of a run that ended so did not run
+abbrev pub IfKeptNone : Exit → Type 0
+IfKeptNone exit.Done = ⊥
+IfKeptNone exit.Sink = ⊥
+IfKeptNone _ = ⊤
+
+unkept : (status : Exit) (P : Type 0) → IfKeptNone status → IfKept status [] P
+unkept exit.Done P h = absurd h
+unkept (exit.Usage at kind) P h = tt
+unkept (exit.Script line kind) P h = tt
+unkept (exit.ScriptLimit kind count) P h = tt
+unkept (exit.Image at kind) P h = tt
+unkept (exit.Bad kind file index) P h = tt
+unkept (exit.Disk count) P h = tt
+unkept exit.Sink P h = absurd h
+unkept exit.Source P h = tt
+unkept exit.Memory P h = λ some. absurd (some refl)
+
+-- nothing was decided
+pub history_none : (old new : Seen) (status : Exit) (entries : List Entry) → entries ≡ [] → IfKeptNone status → IsHistory old new status entries
+history_none old new status entries none none_kept =
+    subst (λ (es : List Entry). IsHistory old new status es) (sym none) (by old.told refl)
+  where
+    by : (o : Option DiskRecord) → old.told ≡ o → IsHistory old new status []
+    by None is =
+        let opened : Stage = record { table = empty_table least_layout; faults = old.faults; calls = old.calls; down = None } in
+        record {
+          world = unopened least_layout.letter (files_of (empty_table least_layout) []);
+          opened = opened;
+          last = opened;
+          starts = subst (λ (o : Option DiskRecord). Starts (option_map live_bytes o) (unopened least_layout.letter (files_of (empty_table least_layout) [])) (empty_table least_layout)) (sym is) none_shown;
+          first = λ some. absurd (some refl);
+          legal = tt;
+          kept = refl;
+          ends = λ some. absurd (some refl);
+          held = unkept status _ none_kept;
+        }
+    by (Some r) is =
+        let opened : Stage = record { table = table_in (live_bytes r); faults = old.faults; calls = old.calls; down = None } in
+        record {
+          world = world_in (live_bytes r);
+          opened = opened;
+          last = opened;
+          starts = subst (λ (o : Option DiskRecord). Starts (option_map live_bytes o) (world_in (live_bytes r)) (table_in (live_bytes r))) (sym is) (refl, refl);
+          first = λ some. absurd (some refl);
+          legal = tt;
+          kept = refl;
+          ends = λ some. absurd (some refl);
+          held = unkept status _ none_kept;
+        }
+
+down_ran : (status : Exit) (unopened : Type 0) (entries : List Entry) → TellsDown status ⊥ entries → TellsDown status unopened entries
+down_ran exit.Done unopened entries h = h
+down_ran (exit.Disk count) unopened entries (inl h) = inl h
+down_ran (exit.Disk count) unopened entries (inr h) = absurd h.1
+down_ran (exit.Usage at kind) unopened entries h = tt
+down_ran (exit.Script line kind) unopened entries h = tt
+down_ran (exit.ScriptLimit kind count) unopened entries h = tt
+down_ran (exit.Image at kind) unopened entries h = tt
+down_ran (exit.Bad kind file index) unopened entries h = tt
+down_ran exit.Sink unopened entries h = tt
+down_ran exit.Source unopened entries h = tt
+down_ran exit.Memory unopened entries h = tt
+
+spared_ran : (m : Counts) (status : Exit) (old new : Seen) → CauseOfEnd m status → Spares status old new
+spared_ran m exit.Done old new cause = tt
+spared_ran m (exit.Usage at kind) old new cause = absurd cause
+spared_ran m (exit.Script line kind) old new cause = absurd cause
+spared_ran m (exit.ScriptLimit kind count) old new cause = absurd cause
+spared_ran m (exit.Image at kind) old new cause = absurd cause
+spared_ran m (exit.Bad kind file index) old new cause = absurd cause
+spared_ran m (exit.Disk count) old new cause = tt
+spared_ran m exit.Sink old new cause = tt
+spared_ran m exit.Source old new cause = absurd cause
+spared_ran m exit.Memory old new cause = tt
 
 -- a script that was read, on an image that was opened
-pub serves_ran : (left live : Option (List ℕ)) (unopened : Type 0) (v : VolumeTable) (parts : Parts) (n m : Counts) (held held_now live_now : Option (List ℕ)) (status : Exit) (entries : List Entry)
+pub serves_ran : (left left_now : Option (List ℕ)) (old new : Seen) (v : VolumeView) (parts : Parts) (n m : Counts) (held held_now : Option (List ℕ)) (status : Exit) (entries : List Entry)
     → m.disk ≡ n.disk → m.disk_now ≡ n.disk_now → m.sink ≡ n.sink → m.sink_now ≡ n.sink_now
-    → IfSome left (λ bytes. script_of bytes ≡ Ok parts) → v ≡ empty_table v.layout → IfSome live (λ x. image_at x ≡ Ok v)
-    → LeavesRun v.layout parts.lines m held held_now live_now status entries
-    → Serves left live unopened n held held_now live_now status entries
-serves_ran left live unopened v parts n m held held_now live_now status entries a b c d says new shows leaves = record {
-  legal = leaves.legal;
-  calls = some_calls left parts m status unopened entries says leaves.cause leaves.order leaves.all;
-  answers = record {
-    layout = v.layout;
-    image = λ some. new_image live v new shows;
-    replies = later_answers v.layout _ _ entries (λ h. omega (arith, h)) leaves.replies;
-  };
-  printed_all = leaves.printed_all;
-  front = leaves.front;
-  image = leaves.image;
-  cause = λ words are. cause_ran words left live n m status a b c d are (is_script left parts says) (is_image live v shows) leaves.cause;
-}
+    → IsRead left parts → TakesAtMost (MOST_BYTES + 1) left left_now → IfSome left (λ bytes. left_now ≡ Some [])
+    → IsGood v.table → IfSome (live_of old) (λ x. image_at x ≡ Ok v.table) → OnlyReads 3 old v.seen
+    → v.seen.size ≡ 4096 * v.table.layout.total → IfSome old.told (λ r. length (live_bytes r) ≡ old.size) → IsTable v.table → v.down ≡ None
+    → LeavesRun v parts.lines m held held_now new status entries
+    → Serves left left_now old new n held held_now status entries
+serves_ran left left_now old new v parts n m held held_now status entries a b c d is taken ended good shows reads size sized table up leaves =
+    let all : old.size ≡ 4096 * v.table.layout.total = sym reads.elapses.size ∙ size in
+    let opens = opens_as old.told v old.size reads.live all sized table shows in
+    let ran = leaves.world opens.world opens.shows in
+    record {
+      history = record {
+        world = opens.world;
+        opened = stage_of v;
+        last = leaves.last;
+        starts = opens.starts;
+        first = λ some. record { table = table; good = good; length = all; up = up; faults = reads.elapses.faults; calls = reads.elapses.calls; few = reads.calls };
+        legal = ran.0;
+        kept = leaves.kept;
+        ends = leaves.ends;
+        held = ran.1;
+      };
+      calls = calls_ran left parts m status (OnlyReads 3 old new) (new ≡ v.seen) entries is leaves.cause (λ same. subst (OnlyReads 3 old) (sym same) reads) leaves.order leaves.all;
+      spared = spared_ran m status old new leaves.cause;
+      input = record { most = taken; all = λ done. ended };
+      down = down_ran status (OnlyReads 3 old new) entries leaves.down;
+      written = leaves.written;
+      front = leaves.front;
+      cause = cause_ran left (live_of old) n m status a b c d (is_script left parts is.says) (is_image (live_of old) v.table good shows) leaves.cause;
+    }
 
 some_all : (o : Option (List ℕ)) (P : List ℕ → Type 0) → ((bytes : List ℕ) → P bytes) → IfSome o P
 some_all None P all = tt
 some_all (Some bytes) P all = all bytes
 
-any_layout : Layout
-any_layout = record { total = 16; area = 1; log = 0; letter = 67 }
+any_writes : (status : Exit) (P : Type 0) → P → WritesAll status P
+any_writes exit.Done P p = p
+any_writes (exit.Usage at kind) P p = p
+any_writes (exit.Script line kind) P p = p
+any_writes (exit.ScriptLimit kind count) P p = p
+any_writes (exit.Image at kind) P p = p
+any_writes (exit.Bad kind file index) P p = p
+any_writes (exit.Disk count) P p = p
+any_writes exit.Sink P p = tt
+any_writes exit.Source P p = p
+any_writes exit.Memory P p = tt
 
--- nothing was answered
-pub answers_none : (live : Option (List ℕ)) (disk disk_now : ℕ) (entries : List Entry) → entries ≡ [] → AreAnswered live disk disk_now entries
-answers_none live disk disk_now entries none =
-    subst (λ (es : List Entry). AreAnswered live disk disk_now es) (sym none) (record { layout = any_layout; image = λ some. absurd (some refl); replies = tt })
+-- nothing is printed of a history without entries
+pub nothing_printed : (held : Option (List ℕ)) (entries : List Entry) → entries ≡ [] → Appended held held (printed entries)
+nothing_printed held entries none = subst (λ (es : List Entry). Appended held held (printed es)) (sym none) (by held)
+  where
+    by : (o : Option (List ℕ)) → Appended o o []
+    by None = tt
+    by (Some bytes) = sym (append-nil bytes)
+
+pub nothing_written : (status : Exit) (held : Option (List ℕ)) (entries : List Entry) → entries ≡ [] → WritesAll status (Appended held held (printed entries))
+nothing_written status held entries none = any_writes status _ (nothing_printed held entries none)
 
 -- a run that ended before its first line
-pub serves_none : (left live : Option (List ℕ)) (unopened : Type 0) (n : Counts) (held live_now : Option (List ℕ)) (status : Exit) (entries : List Entry) → entries ≡ [] → (status ≡ exit.Done → ⊥)
-    → ((bytes : List ℕ) → HasCalls status unopened bytes []) → ((words : List (List ℕ)) → AreWords words → ExitCause words left live n status)
-    → Serves left live unopened n held held live_now status entries
-serves_none left live unopened n held live_now status entries none not_done calls cause =
-    subst (λ (es : List Entry). Serves left live unopened n held held live_now status es) (sym none) (record {
-      legal = tt;
-      calls = some_all left (λ bytes. HasCalls status unopened bytes []) calls;
-      answers = answers_none live n.disk n.disk_now [] refl;
-      printed_all = λ done. absurd (not_done done);
-      front = AppendedFront-none held [];
-      image = λ done. absurd (not_done done);
-      cause = cause;
-    })
+serves_none : (left left_now : Option (List ℕ)) (old new : Seen) (n : Counts) (held : Option (List ℕ)) (status : Exit) (entries : List Entry) → entries ≡ [] → (status ≡ exit.Done → ⊥)
+    → IfKeptNone status → HasCalls status (OnlyReads 3 old new) left [] → Spares status old new → TakesAtMost (MOST_BYTES + 1) left left_now → TellsDown status (OnlyReads 3 old new) [] → ExecCause left (live_of old) n status
+    → Serves left left_now old new n held held status entries
+serves_none left left_now old new n held status entries none not_done none_kept calls spared taken down cause = record {
+  history = history_none old new status entries none none_kept;
+  calls = subst (λ (es : List Entry). HasCalls status (OnlyReads 3 old new) left es) (sym none) calls;
+  spared = spared;
+  input = record { most = taken; all = λ done. absurd (not_done done) };
+  down = subst (TellsDown status (OnlyReads 3 old new)) (sym none) down;
+  written = nothing_written status held entries none;
+  front = subst (λ (es : List Entry). AppendedFront held held (printed es)) (sym none) (AppendedFront-none held []);
+  cause = cause;
+}
 
--- why a script was not read
-pub script_cause : (words : List (List ℕ)) (left live : Option (List ℕ)) (n : Counts) (fault : ScriptFault) → AreWords words
-    → IfSome left (λ bytes. FailsAs fault (script_of bytes)) → (fault ≡ script.Source → Rose n.source n.source_now) → ExitCause words left live n (exit_of_script fault)
-script_cause words left live n script.Source are says rose = (are, rose refl)
-script_cause words left live n (script.Line line kind) are says rose = (are, says)
-script_cause words left live n (script.Limit kind count) are says rose = (are, says)
-script_cause words left live n script.Memory are says rose = tt
-
--- why an image was not opened
-pub opening_cause : (words : List (List ℕ)) (left live : Option (List ℕ)) (n : Counts) (parts : Parts) (count : ℕ) (fault : OpenFault) → AreWords words → IfSome left (λ bytes. script_of bytes ≡ Ok parts)
-    → IfSome live (λ m. opening_words.FailsAs fault (image_at m)) → Caused fault n.disk n.disk_now → count ≡ risen n.disk n.disk_now → ExitCause words left live n (exit_of_opening count fault)
-opening_cause words left live n parts count opening.Disk are says fails rose is = (are, is_script left parts says, rose, is)
-opening_cause words left live n parts count (opening.Image at kind) are says fails rose is = (are, is_script left parts says, fails)
-opening_cause words left live n parts count opening.Memory are says fails rose is = tt
-
-not_done_script : (fault : ScriptFault) (status : Exit) → status ≡ exit_of_script fault → status ≡ exit.Done → ⊥
-not_done_script script.Source status e done = cc
-not_done_script (script.Line line kind) status e done = cc
-not_done_script (script.Limit kind count) status e done = cc
-not_done_script script.Memory status e done = cc
-
-not_done_opening : (count : ℕ) (fault : OpenFault) (status : Exit) → status ≡ exit_of_opening count fault → status ≡ exit.Done → ⊥
-not_done_opening count opening.Disk status e done = cc
-not_done_opening count (opening.Image at kind) status e done = cc
-not_done_opening count opening.Memory status e done = cc
-
--- no call was made where the script was not read, or the image was not opened
-no_calls_script : (fault : ScriptFault) (status : Exit) (unopened : Type 0) (bytes : List ℕ) → status ≡ exit_of_script fault → HasCalls status unopened bytes []
-no_calls_script script.Source status unopened bytes is = subst (λ (s : Exit). HasCalls s unopened bytes []) (sym is) refl
-no_calls_script (script.Line line kind) status unopened bytes is = subst (λ (s : Exit). HasCalls s unopened bytes []) (sym is) refl
-no_calls_script (script.Limit kind count) status unopened bytes is = subst (λ (s : Exit). HasCalls s unopened bytes []) (sym is) refl
-no_calls_script script.Memory status unopened bytes is = subst (λ (s : Exit). HasCalls s unopened bytes []) (sym is) (inr refl)
-
-no_calls_opening : (count : ℕ) (fault : OpenFault) (status : Exit) (unopened : Type 0) (bytes : List ℕ) → unopened → status ≡ exit_of_opening count fault → HasCalls status unopened bytes []
-no_calls_opening count opening.Disk status unopened bytes only is = subst (λ (s : Exit). HasCalls s unopened bytes []) (sym is) (inr (refl, only))
-no_calls_opening count (opening.Image at kind) status unopened bytes only is = subst (λ (s : Exit). HasCalls s unopened bytes []) (sym is) refl
-no_calls_opening count opening.Memory status unopened bytes only is = subst (λ (s : Exit). HasCalls s unopened bytes []) (sym is) (inr refl)
-
-no_calls_usage : (fault : UsageFault) (unopened : Type 0) (bytes : List ℕ) → HasCalls (exit_of_usage fault) unopened bytes []
-no_calls_usage (usage.Word at kind) unopened bytes = refl
-no_calls_usage usage.Memory unopened bytes = inr refl
-
--- no call was made where the words were no command
-pub calls_usage : (left : Option (List ℕ)) (fault : UsageFault) (status : Exit) (unopened : Type 0) (entries : List Entry) → entries ≡ [] → status ≡ exit_of_usage fault
-    → IfSome left (λ bytes. HasCalls status unopened bytes entries)
-calls_usage left fault status unopened entries none is =
-    subst (λ (es : List Entry). IfSome left (λ bytes. HasCalls status unopened bytes es)) (sym none)
-    (subst (λ (s : Exit). IfSome left (λ bytes. HasCalls s unopened bytes [])) (sym is)
-    (some_all left (λ bytes. HasCalls (exit_of_usage fault) unopened bytes []) (no_calls_usage fault unopened)))
+not_read : (old new : Seen) → new ≡ old → OnlyReads 3 old new
+not_read old new same = subst (OnlyReads 3 old) (sym same) (no_reads 3 old)
 
 -- a script that was not read
-pub serves_no_script : (left live : Option (List ℕ)) (unopened : Type 0) (n : Counts) (held live_now : Option (List ℕ)) (fault : ScriptFault) (status : Exit) (entries : List Entry) → entries ≡ [] → status ≡ exit_of_script fault
-    → IfSome left (λ bytes. FailsAs fault (script_of bytes)) → (fault ≡ script.Source → Rose n.source n.source_now) → Serves left live unopened n held held live_now status entries
-serves_no_script left live unopened n held live_now fault status entries none is says rose =
-    serves_none left live unopened n held live_now status entries none (not_done_script fault status is) (λ bytes. no_calls_script fault status unopened bytes is)
-    (λ words are. subst (ExitCause words left live n) (sym is) (script_cause words left live n fault are says rose))
+pub serves_no_script : (left left_now : Option (List ℕ)) (old new : Seen) (n : Counts) (held : Option (List ℕ)) (fault : ScriptFault) (status : Exit) (entries : List Entry) → entries ≡ [] → status ≡ exit_of_script fault → new ≡ old
+    → IfSome left (λ bytes. FailsAs fault (script_of bytes)) → (fault ≡ script.Source → Rose n.source n.source_now) → TakesAtMost (MOST_BYTES + 1) left left_now → Serves left left_now old new n held held status entries
+serves_no_script left left_now old new n held fault status entries none is same says rose taken = subst (λ (s : Exit). Serves left left_now old new n held held s entries) (sym is) (by fault says rose)
+  where
+    by : (f : ScriptFault) → IfSome left (λ bytes. FailsAs f (script_of bytes)) → (f ≡ script.Source → Rose n.source n.source_now) → Serves left left_now old new n held held (exit_of_script f) entries
+    by script.Source says rose = serves_none left left_now old new n held exit.Source entries none (λ done. absurd cc) tt refl same taken tt (rose refl)
+    by (script.Line line kind) says rose = serves_none left left_now old new n held (exit.Script line kind) entries none (λ done. absurd cc) tt refl same taken tt says
+    by (script.Limit kind count) says rose = serves_none left left_now old new n held (exit.ScriptLimit kind count) entries none (λ done. absurd cc) tt refl same taken tt says
+    by script.Memory says rose = serves_none left left_now old new n held exit.Memory entries none (λ done. absurd cc) tt (inr (refl, not_read old new same)) tt taken tt tt
 
 -- an image that was not opened
-pub serves_no_image : (left live : Option (List ℕ)) (unopened : Type 0) (n : Counts) (held live_now : Option (List ℕ)) (parts : Parts) (count : ℕ) (fault : OpenFault) (status : Exit) (entries : List Entry) → entries ≡ [] → status ≡ exit_of_opening count fault
-    → IfSome left (λ bytes. script_of bytes ≡ Ok parts) → IfSome live (λ m. opening_words.FailsAs fault (image_at m)) → Caused fault n.disk n.disk_now → count ≡ risen n.disk n.disk_now → unopened
-    → Serves left live unopened n held held live_now status entries
-serves_no_image left live unopened n held live_now parts count fault status entries none is says fails rose risen_is only =
-    serves_none left live unopened n held live_now status entries none (not_done_opening count fault status is) (λ bytes. no_calls_opening count fault status unopened bytes only is)
-    (λ words are. subst (ExitCause words left live n) (sym is) (opening_cause words left live n parts count fault are says fails rose risen_is))
+pub serves_no_image : (left left_now : Option (List ℕ)) (old new : Seen) (n : Counts) (held : Option (List ℕ)) (parts : Parts) (count : ℕ) (fault : OpenFault) (status : Exit) (entries : List Entry) → entries ≡ [] → status ≡ exit_of_opening count fault
+    → IfSome left (λ bytes. script_of bytes ≡ Ok parts) → TakesAtMost (MOST_BYTES + 1) left left_now → IfSome (live_of old) (λ m. opening_words.FailsAs fault (image_at m)) → Caused fault n.disk n.disk_now → count ≡ risen n.disk n.disk_now → OnlyReads 3 old new
+    → Serves left left_now old new n held held status entries
+serves_no_image left left_now old new n held parts count fault status entries none is says taken fails rose risen_is only =
+    subst (λ (s : Exit). Serves left left_now old new n held held s entries) (sym is) (by fault fails rose)
+  where
+    by : (f : OpenFault) → IfSome (live_of old) (λ m. opening_words.FailsAs f (image_at m)) → Caused f n.disk n.disk_now → Serves left left_now old new n held held (exit_of_opening count f) entries
+    by opening.Disk fails rose = serves_none left left_now old new n held (exit.Disk count) entries none (λ done. absurd cc) tt (inr (refl, only)) tt taken (inr (refl, only)) (is_script left parts says, rose, risen_is)
+    by (opening.Image at kind) fails rose = serves_none left left_now old new n held (exit.Image at kind) entries none (λ done. absurd cc) tt (refl, only) tt taken tt (is_script left parts says, fails)
+    by (opening.Bad kind file index) fails rose = serves_none left left_now old new n held (exit.Bad kind file index) entries none (λ done. absurd cc) tt (refl, only) tt taken tt (is_script left parts says, fails)
+    by opening.Memory fails rose = serves_none left left_now old new n held exit.Memory entries none (λ done. absurd cc) tt (inr (refl, only)) tt taken tt tt
+
+pub down_usage : (fault : UsageFault) (status : Exit) (unopened : Type 0) (entries : List Entry) → status ≡ exit_of_usage fault → TellsDown status unopened entries
+down_usage (usage.Word at kind) status unopened entries is = subst (λ (s : Exit). TellsDown s unopened entries) (sym is) tt
+down_usage usage.Memory status unopened entries is = subst (λ (s : Exit). TellsDown s unopened entries) (sym is) tt
+
+-- ---- words that were refused
+
+pub kept_usage : (fault : UsageFault) (status : Exit) → status ≡ exit_of_usage fault → IfKeptNone status
+kept_usage (usage.Word at kind) status is = subst IfKeptNone (sym is) tt
+kept_usage usage.Memory status is = subst IfKeptNone (sym is) tt
+
+-- no call was made where the words were no command
+pub calls_usage : (left : Option (List ℕ)) (old new : Seen) (fault : UsageFault) (status : Exit) (entries : List Entry) → entries ≡ [] → status ≡ exit_of_usage fault → new ≡ old → HasCalls status (OnlyReads 3 old new) left entries
+calls_usage left old new (usage.Word at kind) status entries none is same = subst (λ (s : Exit). HasCalls s (OnlyReads 3 old new) left entries) (sym is) none
+calls_usage left old new usage.Memory status entries none is same = subst (λ (s : Exit). HasCalls s (OnlyReads 3 old new) left entries) (sym is) (inr (none, not_read old new same))
+
+pub spared_same : (status : Exit) (old new : Seen) → new ≡ old → Spares status old new
+spared_same exit.Done old new same = tt
+spared_same (exit.Usage at kind) old new same = same
+spared_same (exit.Script line kind) old new same = same
+spared_same (exit.ScriptLimit kind count) old new same = same
+spared_same (exit.Image at kind) old new same = tt
+spared_same (exit.Bad kind file index) old new same = tt
+spared_same (exit.Disk count) old new same = tt
+spared_same exit.Sink old new same = tt
+spared_same exit.Source old new same = same
+spared_same exit.Memory old new same = tt
+
+pub refused_same : (status : Exit) (old new : Seen) → new ≡ old → IfRefused status (new ≡ old)
+refused_same exit.Done old new same = tt
+refused_same (exit.Usage at kind) old new same = tt
+refused_same (exit.Script line kind) old new same = tt
+refused_same (exit.ScriptLimit kind count) old new same = tt
+refused_same (exit.Image at kind) old new same = same
+refused_same (exit.Bad kind file index) old new same = tt
+refused_same (exit.Disk count) old new same = tt
+refused_same exit.Sink old new same = tt
+refused_same exit.Source old new same = tt
+refused_same exit.Memory old new same = same
+
+pub spared_format : (l : Layout) (status : Exit) (old new : Seen) → FormatCause l old.size old.faults new.faults status → Spares status old new
+spared_format l exit.Done old new cause = tt
+spared_format l (exit.Usage at kind) old new cause = absurd cause
+spared_format l (exit.Script line kind) old new cause = absurd cause
+spared_format l (exit.ScriptLimit kind count) old new cause = absurd cause
+spared_format l (exit.Image at kind) old new cause = tt
+spared_format l (exit.Bad kind file index) old new cause = tt
+spared_format l (exit.Disk count) old new cause = tt
+spared_format l exit.Sink old new cause = tt
+spared_format l exit.Source old new cause = absurd cause
+spared_format l exit.Memory old new cause = tt
+
+-- nothing is taken of the source
+pub takes_none : (status : Exit) (left : Option (List ℕ)) → (status ≡ exit.Done → ⊥) → TakesScript status left left
+takes_none status left not_done = record { most = ([], omega arith, by left); all = λ done. absurd (not_done done) }
+  where
+    by : (o : Option (List ℕ)) → HasRead o o []
+    by None = tt
+    by (Some bytes) = refl
+
+pub not_done_usage : (fault : UsageFault) (status : Exit) → status ≡ exit_of_usage fault → status ≡ exit.Done → ⊥
+not_done_usage (usage.Word at kind) status e done = cc
+not_done_usage usage.Memory status e done = cc
+
+-- ---- what the words ask
+
+-- both hold, so whatever the words ask
+pub either : (plan : Result Words Fault) (P Q : Type 0) → P → Q → IfExec plan P Q
+either (Ok words) P Q p q = by words.verb
+  where
+    by : (v : Verb) → IsExec v P Q
+    by verb.Exec = p
+    by verb.Format = q
+either (Err fault) P Q p q = q
+
+pub asks_exec : (plan : Result Words Fault) (w : Words) (P Q : Type 0) → plan ≡ Ok w → w.verb ≡ verb.Exec → P → IfExec plan P Q
+asks_exec plan w P Q is exec p = subst (λ (x : Result Words Fault). IfExec x P Q) (sym is) (subst (λ (v : Verb). IsExec v P Q) (sym exec) p)
+
+pub asks_format : (plan : Result Words Fault) (w : Words) (P Q : Type 0) → plan ≡ Ok w → w.verb ≡ verb.Format → Q → IfExec plan P Q
+asks_format plan w P Q is format q = subst (λ (x : Result Words Fault). IfExec x P Q) (sym is) (subst (λ (v : Verb). IsExec v P Q) (sym format) q)
+
+pub no_layout : (plan : Result Words Fault) (w : Words) (P : Layout → Type 0) → plan ≡ Ok w → w.layout ≡ None → IfFormat plan P
+no_layout plan w P is none = subst (λ (x : Result Words Fault). IfFormat x P) (sym is) (subst (λ (o : Option Layout). IfSome o P) (sym none) tt)
+
+pub this_layout : (plan : Result Words Fault) (w : Words) (l : Layout) (P : Layout → Type 0) → plan ≡ Ok w → w.layout ≡ Some l → P l → IfFormat plan P
+this_layout plan w l P is there p = subst (λ (x : Result Words Fault). IfFormat x P) (sym is) (subst (λ (o : Option Layout). IfSome o P) (sym there) p)
+
+pub all_layouts : (plan : Result Words Fault) (P : Layout → Type 0) → ((l : Layout) → P l) → IfFormat plan P
+all_layouts (Err fault) P all = tt
+all_layouts (Ok words) P all = by words.layout
+  where
+    by : (o : Option Layout) → IfSome o P
+    by None = tt
+    by (Some l) = all l
+
+-- without a layout it is no format
+pub is_exec : (v : Verb) (layout : Option Layout) → (v ≡ verb.Format) ↔ IsSome layout → layout ≡ None → v ≡ verb.Exec
+is_exec verb.Exec layout h none = refl
+is_exec verb.Format layout h none = let some = subst IsSome none (h.0 refl) in absurd cc
+
+-- why words were not taken
+pub cause_usage : (plan : Result Words Fault) (left live : Option (List ℕ)) (size : ℕ) (n : Counts) (fault : UsageFault) (status : Exit) → status ≡ exit_of_usage fault → Fails fault plan → ExitCause plan left live size n status
+cause_usage plan left live size n (usage.Word at kind) status is fails =
+    subst (λ (x : Result Words Fault). ExitCause x left live size n status) (sym fails) (inl is)
+cause_usage (Err (at, kind)) left live size n usage.Memory status is fails = inr is
+cause_usage (Ok words) left live size n usage.Memory status is fails = subst (λ (s : Exit). ExitCause (Ok words) left live size n s) (sym is) (by words.verb words.layout)
+  where
+    by_layout : (o : Option Layout) → IfSome o (λ l. FormatCause l size n.disk n.disk_now exit.Memory)
+    by_layout None = tt
+    by_layout (Some l) = tt
+
+    by : (v : Verb) (o : Option Layout) → IsExec v (ExecCause left live n exit.Memory) (IfSome o (λ l. FormatCause l size n.disk n.disk_now exit.Memory))
+    by verb.Exec o = tt
+    by verb.Format o = by_layout o
+
+pub cause_exec : (plan : Result Words Fault) (w : Words) (left live : Option (List ℕ)) (size : ℕ) (n : Counts) (status : Exit) → plan ≡ Ok w → w.verb ≡ verb.Exec → ExecCause left live n status → ExitCause plan left live size n status
+cause_exec plan w left live size n status is exec h =
+    subst (λ (x : Result Words Fault). ExitCause x left live size n status) (sym is) (subst (λ (v : Verb). IsExec v (ExecCause left live n status) (IfSome w.layout (λ l. FormatCause l size n.disk n.disk_now status))) (sym exec) h)
+
+pub cause_format : (plan : Result Words Fault) (w : Words) (l : Layout) (left live : Option (List ℕ)) (size : ℕ) (n : Counts) (status : Exit) → plan ≡ Ok w → w.verb ≡ verb.Format → w.layout ≡ Some l → FormatCause l size n.disk n.disk_now status → ExitCause plan left live size n status
+cause_format plan w l left live size n status is format there h =
+    subst (λ (x : Result Words Fault). ExitCause x left live size n status) (sym is)
+    (subst (λ (v : Verb). IsExec v (ExecCause left live n status) (IfSome w.layout (λ l. FormatCause l size n.disk n.disk_now status))) (sym format)
+    (subst (λ (o : Option Layout). IfSome o (λ l. FormatCause l size n.disk n.disk_now status)) (sym there) h))
+
+-- ---- what was accepted ends well, or for want of memory
 
 some_says : (left : Option (List ℕ)) (bytes : List ℕ) (P : List ℕ → Type 0) → left ≡ Some bytes → IfSome left P → P bytes
 some_says left bytes P e h = subst (λ (o : Option (List ℕ)). IfSome o P) e h
 
+complete_exec : (left live : Option (List ℕ)) (n : Counts) (status : Exit) → ExecCause left live n status → MayExec left live n → (status ≡ exit.Done) ⊎ (status ≡ exit.Memory)
+complete_exec left live n exit.Done h ok = inl refl
+complete_exec left live n exit.Memory h ok = inr refl
+complete_exec left live n (exit.Usage at kind) h ok = absurd h
+complete_exec left live n (exit.Script line kind) h ok =
+    let wrong = some_says left ok.script.0 (λ bytes. script_of bytes ≡ Err (script.Line line kind)) ok.script.1 h in let right = ok.script.2.1 in absurd cc
+complete_exec left live n (exit.ScriptLimit kind count) h ok =
+    let wrong = some_says left ok.script.0 (λ bytes. script_of bytes ≡ Err (script.Limit kind count)) ok.script.1 h in let right = ok.script.2.1 in absurd cc
+complete_exec left live n (exit.Image at kind) h ok =
+    let wrong = some_says live ok.image.0 (λ m. image_at m ≡ Err (at, kind)) ok.image.1 h.1 in let right = ok.image.2.1 in absurd cc
+complete_exec left live n (exit.Bad kind file index) h ok =
+    let wrong = some_says live ok.image.0 (λ m. (v : VolumeTable) × (image_at m ≡ Ok v) × (first_defect v ≡ Some (kind, file, index))) ok.image.1 h.1 in
+    let v = ok.image.2.0 in
+    let right = ok.image.2.1 in
+    let same : wrong.0 ≡ v = same_table (sym wrong.1 ∙ right) in
+    let none : first_defect wrong.0 ≡ None = ap first_defect same ∙ (good_law v).1 ok.image.2.2 in
+    let some = wrong.2 in
+    absurd cc
+  where
+    same_table : {x y : VolumeTable} → ◌≡◌ {A = Result VolumeTable ImageFault} (Ok x) (Ok y) → x ≡ y
+    same_table e = cc
+complete_exec left live n (exit.Disk count) h ok = absurd (ok.disk h.1)
+complete_exec left live n exit.Sink h ok = absurd (ok.sink h.2)
+complete_exec left live n exit.Source h ok = absurd (ok.source h)
+
+complete_format : (l : Layout) (size : ℕ) (n : Counts) (status : Exit) → FormatCause l size n.disk n.disk_now status → MayFormat l size n → (status ≡ exit.Done) ⊎ (status ≡ exit.Memory)
+complete_format l size n exit.Done h ok = inl refl
+complete_format l size n exit.Memory h ok = inr refl
+complete_format l size n (exit.Image at kind) h ok = absurd (h.0 ok.length)
+complete_format l size n (exit.Disk count) h ok = absurd (ok.disk h.1)
+complete_format l size n (exit.Usage at kind) h ok = absurd h
+complete_format l size n (exit.Script line kind) h ok = absurd h
+complete_format l size n (exit.ScriptLimit kind count) h ok = absurd h
+complete_format l size n (exit.Bad kind file index) h ok = absurd h
+complete_format l size n exit.Sink h ok = absurd h
+complete_format l size n exit.Source h ok = absurd h
+
 -- what was accepted, with nothing that failed, ends well or for want of memory
-pub complete_by : (words : List (List ℕ)) (left live : Option (List ℕ)) (n : Counts) (status : Exit) → ExitCause words left live n status → IsAccepted words left live n → (status ≡ exit.Done) ⊎ (status ≡ exit.Memory)
-complete_by words left live n exit.Done h ok = inl refl
-complete_by words left live n exit.Memory h ok = inr refl
-complete_by words left live n (exit.Usage at kind) h ok = let e = ok.are_words.1 in absurd cc
-complete_by words left live n (exit.Script line kind) h ok =
-    let wrong = some_says left ok.script.0 (λ bytes. script_of bytes ≡ Err (script.Line line kind)) ok.script.1 h.1 in let right = ok.script.2.1 in absurd cc
-complete_by words left live n (exit.ScriptLimit kind count) h ok =
-    let wrong = some_says left ok.script.0 (λ bytes. script_of bytes ≡ Err (script.Limit kind count)) ok.script.1 h.1 in let right = ok.script.2.1 in absurd cc
-complete_by words left live n (exit.Image at kind) h ok =
-    let wrong = some_says live ok.image.0 (λ m. image_at m ≡ Err (at, kind)) ok.image.1 h.2 in let right = ok.image.2.1 in absurd cc
-complete_by words left live n (exit.Disk count) h ok = absurd (ok.disk h.2)
-complete_by words left live n exit.Sink h ok = absurd (ok.sink h.3)
-complete_by words left live n exit.Source h ok = absurd (ok.source h.1)
+pub complete_by : (plan : Result Words Fault) (left live : Option (List ℕ)) (size : ℕ) (n : Counts) (status : Exit) → ExitCause plan left live size n status → IsAccepted plan left live size n → (status ≡ exit.Done) ⊎ (status ≡ exit.Memory)
+complete_by (Err fault) left live size n status h ok = absurd ok
+complete_by (Ok words) left live size n status h ok = by words.verb words.layout h ok
+  where
+    by : (v : Verb) (o : Option Layout) → IsExec v (ExecCause left live n status) (IfSome o (λ l. FormatCause l size n.disk n.disk_now status))
+        → IsExec v (MayExec left live n) ((l : Layout) × (o ≡ Some l) × MayFormat l size n) → (status ≡ exit.Done) ⊎ (status ≡ exit.Memory)
+    by verb.Exec o h ok = complete_exec left live n status h ok
+    by verb.Format o h ok = complete_format ok.0 size n status (subst (λ (x : Option Layout). IfSome x (λ l. FormatCause l size n.disk n.disk_now status)) ok.1 h) ok.2

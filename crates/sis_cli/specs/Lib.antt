@@ -2,4 +2,5 @@ pub mod Exit
 pub mod Making
 pub mod Run
 pub mod Session
+pub mod Stages
 pub mod Words

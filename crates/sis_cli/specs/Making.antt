@@ -1,6 +1,6 @@
 -- How a file is made, and why it is not.
-use Rattle.std.specs.Prelude.{◌≡◌, ℕ, ◌+◌, ◌*◌, ◌<◌, ◌≤◌, List, ◌∷◌, length, map, flat_map, take, Option, IfSome, ⊤}
-use Rattle.sis_disk.specs.Layout.{data_blocks, table_cap}
+use Rattle.std.specs.Prelude.{◌≡◌, ℕ, ◌+◌, ◌<◌, ◌≤◌, List, ◌∷◌, length, map, flat_map, take, Option, IfSome, ⊤}
+use Rattle.sis_disk.specs.Layout.{data_blocks}
 use Rattle.sis_disk.specs.Record.{Rose}
 use Rattle.sis_model.specs.declared.reply.Hindrance.{Hindrance}
 use Rattle.sis_model.specs.declared.reply.Hindrance.TheVariants as hindrance
@@ -12,30 +12,29 @@ use Rattle.sis_table.specs.declared.runs.Run.{Run}
 use Rattle.sis_table.specs.declared.edit.Edit.{Edit}
 use Rattle.sis_table.specs.declared.edit.Edit.TheVariants as edit
 use Rattle.sis_volume.specs.Staging.{AreFree}
-use Rattle.sis_table.specs.Spelling.{spelling}
+use Rattle.sis_cli.specs.Stages.{IsTooLong}
 use Rattle.sis_volume.specs.View.{VolumeView}
 
--- how long the table with one more file may be
-abbrev pub longest_with : VolumeView → List ℕ → ℕ → ℕ
-longest_with v name size = length (spelling v.table) + 31 + 2 * length name + 24 * blocks_of size
-
 -- the hindrance comes only where this holds of the volume before and after
-abbrev pub HindersMaking : VolumeView → VolumeView → List ℕ → ℕ → Hindrance → Type 0
-HindersMaking old new name size (hindrance.Full needed used_now total) =
-    (needed ≡ blocks_of size) × (used_now ≡ used old.table) × (total ≡ data_blocks old.table.layout)
+abbrev pub HindersMaking : VolumeView → VolumeView → List ℕ → List ℕ → Hindrance → Type 0
+HindersMaking old new name bytes (hindrance.Limit kind) = ⊥
+HindersMaking old new name bytes (hindrance.Full needed used_now total) =
+    (needed ≡ blocks_of (length bytes)) × (used_now ≡ used old.table)
+    × (total ≡ data_blocks old.table.layout)
     × (total < used_now + needed)
-HindersMaking old new name size (hindrance.TableFull needed cap) =
-    (cap ≡ table_cap old.table.layout) × (cap < needed) × (needed ≤ longest_with old name size)
-HindersMaking old new name size hindrance.Disk = Rose old.seen.faults new.seen.faults
-HindersMaking old new name size (hindrance.Down at) = ⊥
-HindersMaking old new name size hindrance.Memory = ⊤
+HindersMaking old new name bytes (hindrance.TableFull needed cap) =
+    IsTooLong old.table name bytes needed cap
+HindersMaking old new name bytes hindrance.Disk = Rose old.seen.faults new.seen.faults
+HindersMaking old new name bytes (hindrance.Down at) = ⊥
+HindersMaking old new name bytes hindrance.Memory = ⊤
 
 -- the edits that make a file whose blocks lie in these runs
 abbrev pub put_of : ℕ → List ℕ → ℕ → List Run → List Edit
 put_of id name size runs = edit.Make id name ∷ edit.Size id size ∷ map (map_edit id) runs
 
 -- These edits make the file: its bytes were written to these runs, which no file maps.
-pub record StagesFile (v : VolumeTable) (name bytes : List ℕ) (live : Option (List ℕ)) (es : List Edit) (runs : List Run) : Type 0 where
+pub record StagesFile (v : VolumeTable) (name bytes : List ℕ) (live : Option (List ℕ))
+    (es : List Edit) (runs : List Run) : Type 0 where
   pub table : IsTable v
   pub make : MayMake v v.next_id name
   pub limit : length bytes ≤ greatest_size

@@ -1,37 +1,61 @@
 -- What a run may answer, and what it leaves.
-use Rattle.std.specs.Prelude.{◌≡◌, ◌≢◌, ◌⊎◌, ℕ, List, [], map, Option, Some, IfSome, Ok, Err, ⊤}
-use Rattle.std.specs.List.{AllByRecursion}
-use Rattle.sis_disk.specs.Record.{Rose}
+use Rattle.std.specs.Prelude.{◌≡◌, ◌≢◌, ◌⊎◌, ℕ, ◌*◌, false, List, [], map, Option, Some, None, IfSome, Result, Ok, Err, ⊤, true, All, ◌+◌, ◌≤◌}
+use Rattle.sis_disk.specs.Record.{Seen, Rose, live_of}
 use Rattle.sis_disk.specs.declared.layout.Layout.{Layout}
-use Rattle.sis_model.specs.World.{no_files}
-use Rattle.sis_model.specs.History.{IsLegal, world_after}
-use Rattle.sis_model.specs.declared.history.Line.{Line}
+use Rattle.sis_disk.specs.declared.layout.ImageKind.TheVariants as image
 use Rattle.sis_disk.specs.Streams.{Appended, AppendedFront}
-use Rattle.sis_script.specs.Printed.{printed}
+use Rattle.sis_model.specs.World.{World, unopened}
+use Rattle.sis_model.specs.History.{IsLegal, world_after}
 use Rattle.sis_model.specs.Order.{line_of, exec_order, calls_of, expected_calls}
 use Rattle.sis_model.specs.declared.history.Entry.{Entry}
-use Rattle.sis_script.specs.Script.{Parts, script_of}
+use Rattle.sis_model.specs.declared.history.Line.{Line}
+use Rattle.sis_script.specs.Printed.{printed}
+use Rattle.sis_script.specs.Script.{Parts, script_of, IsClient, IsBuilt}
 use Rattle.sis_script.specs.declared.faults.ScriptFault.TheVariants as script
-use Rattle.sis_table.specs.Volume.{VolumeTable, empty_table}
-use Rattle.sis_table.specs.Content.{StandsFor}
+use Rattle.sis_table.specs.Volume.{VolumeTable, empty_table, IsTable}
+use Rattle.sis_table.specs.Content.{StandsFor, files_of}
+use Rattle.sis_table.specs.Good.{IsGood, first_defect}
 use Rattle.sis_table.specs.Image.{Holds, image_at}
-use Rattle.sis_cli.specs.Words.{Words, plan_of}
-use Rattle.sis_cli.specs.Exit.{risen}
-use Rattle.sis_cli.specs.Session.{IsAnsweredOnNew}
+use Rattle.sis_disk.specs.Superblock.{ImageFault}
+use Rattle.sis_volume.specs.View.{VolumeView}
+use Rattle.sis_script.specs.Taken.{TakesAtMost}
+use Rattle.sis_script.specs.declared.limits.TheConstants.{MOST_BYTES}
+use Rattle.sis_volume.specs.Opening.{OnlyReads}
+use Rattle.sis_volume.specs.Formatting.{EndsInSync}
+use Rattle.sis_cli.specs.Words.{Words, Fault}
+use Rattle.sis_cli.specs.Exit.{risen, length_at}
+use Rattle.sis_cli.specs.Session.{ShowsWorld, stage_of}
+use Rattle.sis_cli.specs.Stages.{IsRun, any_down, Stage}
+use Rattle.sis_cli.specs.declared.usage.Verb.{Verb}
+use Rattle.sis_cli.specs.declared.usage.Verb.TheVariants as verb
 use Rattle.sis_cli.specs.declared.exit.Exit.{Exit}
 use Rattle.sis_cli.specs.declared.exit.Exit.TheVariants as exit
 
--- the words are a command
-abbrev pub AreWords : List (List ℕ) → Type 0
-AreWords words = (w : Words) × (plan_of words ≡ Ok w)
+-- ---- verbs
+
+abbrev pub IsExec : Verb → Type 0 → Type 0 → Type 0
+IsExec verb.Exec P Q = P
+IsExec verb.Format P Q = Q
+
+-- P holds where the words ask for a script to be run, and else Q
+abbrev pub IfExec : Result Words Fault → Type 0 → Type 0 → Type 0
+IfExec (Ok words) P Q = IsExec words.verb P Q
+IfExec (Err fault) P Q = Q
+
+-- P holds of the layout where the words ask for an image to be formatted
+abbrev pub IfFormat : Result Words Fault → (Layout → Type 0) → Type 0
+IfFormat (Ok words) P = IfSome words.layout P
+IfFormat (Err fault) P = ⊤
+
+-- ---- what was accepted
 
 -- where the source tells its bytes, they are a script
 abbrev pub IsScript : Option (List ℕ) → Type 0
 IsScript left = IfSome left (λ bytes. (parts : Parts) × (script_of bytes ≡ Ok parts))
 
--- where the disk tells its bytes, they are an image that is opened
+-- where the disk tells its bytes, they are an image, and its files go together
 abbrev pub IsImage : Option (List ℕ) → Type 0
-IsImage live = IfSome live (λ m. (v : VolumeTable) × (image_at m ≡ Ok v))
+IsImage live = IfSome live (λ m. (v : VolumeTable) × (image_at m ≡ Ok v) × IsGood v)
 
 -- The counts of faults of disk, source and sink, before a run and after it.
 pub record Counts : Type 0 where
@@ -42,60 +66,209 @@ pub record Counts : Type 0 where
   pub sink : ℕ
   pub sink_now : ℕ
 
--- Why a run ends so. The words are judged first, then the whole script, then the image.
-abbrev pub ExitCause : List (List ℕ) → Option (List ℕ) → Option (List ℕ) → Counts → Exit → Type 0
-ExitCause words left live n exit.Done = AreWords words × IsScript left × IsImage live
-ExitCause words left live n (exit.Usage at kind) = plan_of words ≡ Err (at, kind)
-ExitCause words left live n (exit.Script line kind) =
-    AreWords words × IfSome left (λ bytes. script_of bytes ≡ Err (script.Line line kind))
-ExitCause words left live n (exit.ScriptLimit kind count) =
-    AreWords words × IfSome left (λ bytes. script_of bytes ≡ Err (script.Limit kind count))
-ExitCause words left live n (exit.Image at kind) =
-    AreWords words × IsScript left × IfSome live (λ m. image_at m ≡ Err (at, kind))
-ExitCause words left live n (exit.Disk count) =
-    AreWords words × IsScript left × Rose n.disk n.disk_now × (count ≡ risen n.disk n.disk_now)
-ExitCause words left live n exit.Sink =
-    AreWords words × IsScript left × IsImage live × Rose n.sink n.sink_now
-ExitCause words left live n exit.Source = AreWords words × Rose n.source n.source_now
-ExitCause words left live n exit.Memory = ⊤
+-- ---- why a run ends so
 
--- The words are a command, the source tells a script and the disk an image that is opened, and none
--- of disk, source and sink failed.
-pub record IsAccepted (words : List (List ℕ)) (left live : Option (List ℕ)) (n : Counts) : Type 0 where
-  pub are_words : AreWords words
+-- why a script ends so: it is judged first, then the image, then the run, then the output
+abbrev pub ExecCause : Option (List ℕ) → Option (List ℕ) → Counts → Exit → Type 0
+ExecCause left live n exit.Done = IsScript left × IsImage live
+ExecCause left live n (exit.Usage at kind) = ⊥
+ExecCause left live n (exit.Script line kind) =
+    IfSome left (λ bytes. script_of bytes ≡ Err (script.Line line kind))
+ExecCause left live n (exit.ScriptLimit kind count) =
+    IfSome left (λ bytes. script_of bytes ≡ Err (script.Limit kind count))
+ExecCause left live n (exit.Image at kind) =
+    IsScript left × IfSome live (λ m. image_at m ≡ Err (at, kind))
+ExecCause left live n (exit.Bad kind file index) =
+    IsScript left × IfSome live (λ m. (v : VolumeTable) × (image_at m ≡ Ok v)
+    × (first_defect v ≡ Some (kind, file, index)))
+ExecCause left live n (exit.Disk count) =
+    IsScript left × Rose n.disk n.disk_now × (count ≡ risen n.disk n.disk_now)
+ExecCause left live n exit.Sink = IsScript left × IsImage live × Rose n.sink n.sink_now
+ExecCause left live n exit.Source = Rose n.source n.source_now
+ExecCause left live n exit.Memory = ⊤
+
+-- why a disk of this size is not formatted so, or is
+abbrev pub FormatCause : Layout → ℕ → ℕ → ℕ → Exit → Type 0
+FormatCause l size faults faults_now exit.Done = size ≡ 4096 * l.total
+FormatCause l size faults faults_now (exit.Image at kind) =
+    (size ≢ 4096 * l.total) × (at ≡ length_at size) × (kind ≡ image.Length)
+FormatCause l size faults faults_now (exit.Disk count) =
+    (size ≡ 4096 * l.total) × Rose faults faults_now × (count ≡ risen faults faults_now)
+FormatCause l size faults faults_now exit.Memory = ⊤
+FormatCause l size faults faults_now _ = ⊥
+
+-- Why a run ends so. The words are judged first.
+abbrev pub ExitCause : Result Words Fault → Option (List ℕ) → Option (List ℕ) → ℕ → Counts → Exit
+    → Type 0
+ExitCause (Err (at, kind)) left live size n status =
+    (status ≡ exit.Usage at kind) ⊎ (status ≡ exit.Memory)
+ExitCause (Ok words) left live size n status =
+    IsExec words.verb (ExecCause left live n status)
+    (IfSome words.layout (λ l. FormatCause l size n.disk n.disk_now status))
+
+-- ---- what ends well
+
+-- The source tells a script and the disk an image that is opened, and none of disk, source and sink
+-- failed.
+pub record MayExec (left live : Option (List ℕ)) (n : Counts) : Type 0 where
   pub script : (bytes : List ℕ) × (left ≡ Some bytes) × IsScript (Some bytes)
   pub image : (m : List ℕ) × (live ≡ Some m) × IsImage (Some m)
   pub disk : ¬ Rose n.disk n.disk_now
   pub source : ¬ Rose n.source n.source_now
   pub sink : ¬ Rose n.sink n.sink_now
 
--- the entries are those of the script: its lines in order, each client's end right after its last
--- line, and so each client's calls, each once
-pub record RunsScript (bytes : List ℕ) (entries : List Entry) : Type 0 where
+-- The disk has the layout's length, and it didn't fail.
+pub record MayFormat (l : Layout) (size : ℕ) (n : Counts) : Type 0 where
+  pub length : size ≡ 4096 * l.total
+  pub disk : ¬ Rose n.disk n.disk_now
+
+-- the words are a command, what it reads is accepted, and nothing failed
+abbrev pub IsAccepted : Result Words Fault → Option (List ℕ) → Option (List ℕ) → ℕ → Counts → Type 0
+IsAccepted (Err fault) left live size n = ⊥
+IsAccepted (Ok words) left live size n =
+    IsExec words.verb (MayExec left live n)
+    ((l : Layout) × (words.layout ≡ Some l) × MayFormat l size n)
+
+-- ---- what a script does
+
+-- the entries are those of a script, which the source told where it tells its bytes: its lines in
+-- order, each client's end right after its last line, and so each client's calls, each once
+pub record RunsScript (left : Option (List ℕ)) (entries : List Entry) : Type 0 where
   pub parts : Parts
-  pub is_script : script_of bytes ≡ Ok parts
+  pub is_script : IfSome left (λ bytes. script_of bytes ≡ Ok parts)
+  pub clients : All (λ l. IsClient l.client) parts.lines
+  pub built : All (λ l. IsBuilt l.command) parts.lines
   pub order : map line_of entries ≡ exec_order parts.lines
   pub calls : (client : ℕ) → calls_of entries client ≡ expected_calls parts.lines client
 
--- Which entries a run has that ended so: the script's calls, or none where it ended before the first
--- of them. `unopened` says that the disk was only read, as where opening failed.
-abbrev pub HasCalls : Exit → Type 0 → List ℕ → List Entry → Type 0
-HasCalls exit.Done unopened bytes entries = RunsScript bytes entries
-HasCalls exit.Sink unopened bytes entries = RunsScript bytes entries
-HasCalls (exit.Disk count) unopened bytes entries = RunsScript bytes entries ⊎ ((entries ≡ []) × unopened)
-HasCalls exit.Memory unopened bytes entries = RunsScript bytes entries ⊎ (entries ≡ [])
-HasCalls _ unopened bytes entries = entries ≡ []
+-- Which entries a run has that ended so: the script's calls, or none where it ended before the
+-- first of them. `unopened` says that the disk was only read, as where opening failed.
+abbrev pub HasCalls : Exit → Type 0 → Option (List ℕ) → List Entry → Type 0
+HasCalls exit.Done unopened left entries = RunsScript left entries
+HasCalls exit.Sink unopened left entries = RunsScript left entries
+HasCalls (exit.Disk count) unopened left entries =
+    RunsScript left entries ⊎ ((entries ≡ []) × unopened)
+HasCalls exit.Memory unopened left entries = RunsScript left entries ⊎ ((entries ≡ []) × unopened)
+HasCalls (exit.Image at kind) unopened left entries = (entries ≡ []) × unopened
+HasCalls (exit.Bad kind file index) unopened left entries = (entries ≡ []) × unopened
+HasCalls _ unopened left entries = entries ≡ []
 
--- the replies of entries, on the image without files that the disk held
-pub record AreAnswered (live : Option (List ℕ)) (disk disk_now : ℕ) (entries : List Entry) : Type 0 where
-  pub layout : Layout
-  pub image : entries ≢ [] → IfSome live (λ m. image_at m ≡ Ok (empty_table layout))
-  pub replies : AllByRecursion (λ e. IsAnsweredOnNew layout (Rose disk disk_now) e.command e.reply) entries
+-- Where words or script were refused, the disk is as it was.
+abbrev pub Spares : Exit → Seen → Seen → Type 0
+Spares (exit.Usage at kind) old new = new ≡ old
+Spares (exit.Script line kind) old new = new ≡ old
+Spares (exit.ScriptLimit kind count) old new = new ≡ old
+Spares exit.Source old new = new ≡ old
+Spares _ old new = ⊤
 
--- the image holds a volume that stands for the files after these entries
-abbrev pub HoldsFilesAfter : List Entry → List ℕ → Type 0
-HoldsFilesAfter entries m =
-    (v : VolumeTable) × Holds m v × StandsFor v m (world_after no_files entries).files
+-- A script takes at most so much of the source as it may hold, and one byte; at `Done` all of it.
+pub record TakesScript (status : Exit) (left left_now : Option (List ℕ)) : Type 0 where
+  pub most : TakesAtMost (MOST_BYTES + 1) left left_now
+  pub all : status ≡ exit.Done → IfSome left (λ bytes. left_now ≡ Some [])
+
+-- P holds where all output was written: not where the sink failed, or memory ran out
+abbrev pub WritesAll : Exit → Type 0 → Type 0
+WritesAll exit.Sink P = ⊤
+WritesAll exit.Memory P = ⊤
+WritesAll _ P = P
+
+-- P holds where the lines ran, and no commit failed
+abbrev pub IfKept : Exit → List Entry → Type 0 → Type 0
+IfKept exit.Done entries P = P
+IfKept exit.Sink entries P = any_down entries ≡ false → P
+IfKept exit.Memory entries P = entries ≢ [] → any_down entries ≡ false → P
+IfKept _ entries P = ⊤
+
+-- the layout of the least image
+abbrev pub least_layout : Layout
+least_layout = record { total = 16; area = 1; log = 0; letter = 65 }
+
+-- the table that is read, and the one without files where none is
+abbrev pub table_or : Result VolumeTable ImageFault → VolumeTable
+table_or (Ok v) = v
+table_or (Err fault) = empty_table least_layout
+
+-- the table that an image holds, and the files for which both stand, none of them open
+abbrev pub table_in : List ℕ → VolumeTable
+table_in m = table_or (image_at m)
+
+abbrev pub world_in : List ℕ → World
+world_in m = unopened (table_in m).layout.letter (files_of (table_in m) m)
+
+-- a volume with this table, of which nothing else is told
+abbrev pub untold : VolumeTable → VolumeView
+untold v = record {
+  seen = record { size = 0; calls = 0; faults = 0; told = None };
+  table = v;
+  is_changed = false;
+  down = None;
+}
+
+-- A run starts with the files for which the image stands. Where the disk doesn't tell its bytes,
+-- these are some files with the names and the sizes that the opened table has.
+abbrev pub Starts : Option (List ℕ) → World → VolumeTable → Type 0
+Starts None w v = ShowsWorld w (untold v)
+Starts (Some m) w v = (w ≡ world_in m) × (v ≡ table_in m)
+
+-- The image holds this table, whose files go together, and it stands for these files.
+pub record HoldsFiles (m : List ℕ) (v : VolumeTable) (w : World) : Type 0 where
+  pub holds : Holds m v
+  pub good : IsGood v
+  pub stands : StandsFor v m w.files
+
+-- The table that was opened is one, of the disk's length, its files go together, and the disk was
+-- called at most three times.
+pub record IsOpened (s : Stage) (old : Seen) : Type 0 where
+  pub table : IsTable s.table
+  pub good : IsGood s.table
+  pub length : old.size ≡ 4096 * s.table.layout.total
+  pub up : s.down ≡ None
+  pub faults : old.faults ≤ s.faults
+  pub calls : old.calls ≤ s.calls
+  pub few : s.calls ≤ old.calls + 3
+
+-- the last stage has the counts of the returned disk
+pub record IsLast (s : Stage) (new : Seen) : Type 0 where
+  pub faults : s.faults ≡ new.faults
+  pub calls : s.calls ≡ new.calls
+
+-- One legal history of separate files, which begins with those of the opening image, and leads from
+-- the stage at opening to the last one. Where no commit failed, the last live bytes hold what came
+-- of both.
+pub record IsHistory (old new : Seen) (status : Exit) (entries : List Entry) : Type 0 where
+  pub world : World
+  pub opened : Stage
+  pub last : Stage
+  pub starts : Starts (live_of old) world opened.table
+  pub first : entries ≢ [] → IsOpened opened old
+  pub legal : IsLegal world entries
+  pub kept : IsRun opened entries last
+  pub ends : entries ≢ [] → IsLast last new
+  pub held : IfKept status entries
+      (IfSome (live_of new) (λ m. HoldsFiles m last.table (world_after world entries)))
+
+-- A run ends in `Done` only where no commit failed, and in `Disk` only where one did, or where the
+-- disk was only read, as where opening failed.
+abbrev pub TellsDown : Exit → Type 0 → List Entry → Type 0
+TellsDown exit.Done unopened entries = any_down entries ≡ false
+TellsDown (exit.Disk count) unopened entries =
+    (any_down entries ≡ true) ⊎ ((entries ≡ []) × unopened)
+TellsDown _ unopened entries = ⊤
+
+-- ---- what format does
+
+-- P holds where nothing was written: the disk has another length, or memory ran out
+abbrev pub IfRefused : Exit → Type 0 → Type 0
+IfRefused (exit.Image at kind) P = P
+IfRefused exit.Memory P = P
+IfRefused _ P = ⊤
+
+-- The image has the table without files, and the last call was a sync.
+pub record IsFormatted (l : Layout) (seen : Seen) : Type 0 where
+  pub holds : IfSome (live_of seen) (λ m. Holds m (empty_table l))
+  pub synced : IfSome seen.told EndsInSync
+
+-- ---- what parts of a run leave
 
 -- why a run whose lines ran ends so
 abbrev pub CauseOfEnd : Counts → Exit → Type 0
@@ -105,23 +278,39 @@ CauseOfEnd n exit.Sink = Rose n.sink n.sink_now
 CauseOfEnd n exit.Memory = ⊤
 CauseOfEnd n _ = ⊥
 
--- what a run of some lines leaves on an image without files of this layout
-pub record LeavesRun (l : Layout) (lines : List Line) (n : Counts) (held held_now live_now : Option (List ℕ)) (status : Exit) (entries : List Entry) : Type 0 where
-  pub legal : IsLegal no_files entries
-  pub order : (entries ≡ []) ⊎ (map line_of entries ≡ exec_order lines)
+-- what a run of some lines on an opened volume leaves
+pub record LeavesRun (v : VolumeView) (lines : List Line) (n : Counts)
+    (held held_now : Option (List ℕ)) (now : Seen) (status : Exit)
+    (entries : List Entry) : Type 0 where
+  pub last : Stage
+  pub order : ((entries ≡ []) × (now ≡ v.seen)) ⊎ (map line_of entries ≡ exec_order lines)
   pub all : status ≢ exit.Memory → map line_of entries ≡ exec_order lines
-  pub replies : AllByRecursion (λ e. IsAnsweredOnNew l (Rose n.disk n.disk_now) e.command e.reply) entries
-  pub printed_all : status ≡ exit.Done → Appended held held_now (printed entries)
+  pub kept : IsRun (stage_of v) entries last
+  pub ends : entries ≢ [] → IsLast last now
+  pub world : (w : World) → ShowsWorld w v → IsLegal w entries
+      × IfKept status entries
+      (IfSome (live_of now) (λ m. HoldsFiles m last.table (world_after w entries)))
+  pub written : WritesAll status (Appended held held_now (printed entries))
   pub front : AppendedFront held held_now (printed entries)
-  pub image : status ≡ exit.Done → IfSome live_now (HoldsFilesAfter entries)
+  pub down : TellsDown status ⊥ entries
   pub cause : CauseOfEnd n status
 
--- what a run leaves whose words are a command
-pub record Serves (left live : Option (List ℕ)) (unopened : Type 0) (n : Counts) (held held_now live_now : Option (List ℕ)) (status : Exit) (entries : List Entry) : Type 0 where
-  pub legal : IsLegal no_files entries
-  pub calls : IfSome left (λ bytes. HasCalls status unopened bytes entries)
-  pub answers : AreAnswered live n.disk n.disk_now entries
-  pub printed_all : status ≡ exit.Done → Appended held held_now (printed entries)
+-- what a run of a script leaves
+pub record Serves (left left_now : Option (List ℕ)) (old new : Seen) (n : Counts)
+    (held held_now : Option (List ℕ)) (status : Exit) (entries : List Entry) : Type 0 where
+  pub history : IsHistory old new status entries
+  pub calls : HasCalls status (OnlyReads 3 old new) left entries
+  pub spared : Spares status old new
+  pub input : TakesScript status left left_now
+  pub down : TellsDown status (OnlyReads 3 old new) entries
+  pub written : WritesAll status (Appended held held_now (printed entries))
   pub front : AppendedFront held held_now (printed entries)
-  pub image : status ≡ exit.Done → IfSome live_now (HoldsFilesAfter entries)
-  pub cause : (words : List (List ℕ)) → AreWords words → ExitCause words left live n status
+  pub cause : ExecCause left (live_of old) n status
+
+-- what formatting a disk leaves
+pub record Formats (l : Layout) (old new : Seen) (status : Exit)
+    (entries : List Entry) : Type 0 where
+  pub none : entries ≡ []
+  pub refused : IfRefused status (new ≡ old)
+  pub formatted : status ≡ exit.Done → IsFormatted l new
+  pub cause : FormatCause l old.size old.faults new.faults status

@@ -1,70 +1,95 @@
--- What a session shows of a world, and what its replies say of the volume.
-use Rattle.std.specs.Prelude.{◌≡◌, ℕ, ◌<◌, false, List, [], length, map, is_some, None, IfSome, ⊤}
-use Rattle.std.specs.List.{list_any, AllByRecursion}
-use Rattle.sis_disk.specs.Layout.{data_blocks}
+-- What a volume shows of a world, and what a session does to both.
+use Rattle.std.specs.Prelude.{◌≡◌, ℕ, ◌≤◌, Bool, true, false, List, [], ◌∷◌, length, map, None, IfSome, ⊤, is_some, Some}
+use Rattle.std.specs.Option.{option_map}
+use Rattle.std.specs.FinMap as map
 use Rattle.sis_disk.specs.Record.{Rose}
 use Rattle.sis_disk.specs.Stops.{Elapses}
-use Rattle.sis_disk.specs.declared.layout.Layout.{Layout}
-use Rattle.sis_model.specs.World.{World, bytes_of, no_files}
-use Rattle.sis_model.specs.Answer.{refusal_of}
+use Rattle.sis_model.specs.World.{World, bytes_of}
+use Rattle.sis_model.specs.Answer.{MayReply, world_with}
 use Rattle.sis_model.specs.History.{IsLegal, world_after}
-use Rattle.sis_model.specs.Order.{line_of, exec_order}
+use Rattle.sis_model.specs.Order.{line_of}
 use Rattle.sis_model.specs.declared.command.Command.{Command}
 use Rattle.sis_model.specs.declared.command.Command.TheVariants as command
 use Rattle.sis_model.specs.declared.reply.Reply.{Reply}
 use Rattle.sis_model.specs.declared.reply.Reply.TheVariants as reply
-use Rattle.sis_model.specs.declared.reply.Hindrance.{Hindrance}
 use Rattle.sis_model.specs.declared.reply.Hindrance.TheVariants as hindrance
 use Rattle.sis_model.specs.declared.history.Entry.{Entry}
 use Rattle.sis_model.specs.declared.history.Line.{Line}
-use Rattle.sis_table.specs.Volume.{has_name, blocks_of}
+use Rattle.sis_script.specs.Script.{IsBuilt}
+use Rattle.sis_table.specs.Volume.{node_named, ids_of}
 use Rattle.sis_table.specs.Content.{files_in}
 use Rattle.sis_volume.specs.View.{VolumeView}
+use Rattle.sis_cli.specs.Stages.{Fits, Changes, IsRun, is_down, any_down, Stage, GoesDown}
 
--- The volume's names are the world's, and where its disk tells its bytes, it stands for the world's
--- files. Nothing is open.
+-- The volume's names and sizes are those of the world's files, and where its disk tells its bytes,
+-- it stands for the files. Nothing is open.
 pub record ShowsWorld (w : World) (v : VolumeView) : Type 0 where
-  pub names : (name : List ℕ) → is_some (bytes_of w name) ≡ list_any (has_name name) v.table.nodes
+  pub letter : w.letter ≡ v.table.layout.letter
+  pub names : map.keys w.files ≡ map.keys (ids_of v.table)
+  pub sizes : (name : List ℕ)
+      → option_map length (bytes_of w name) ≡ option_map (λ n. n.size) (node_named v.table name)
   pub stands : IfSome (files_in v.table v.seen) (λ files. files ≡ w.files)
   pub opens : w.opens ≡ []
 
--- What a hindrance of a put says, on an image without files whose disk's faults rose or not.
-abbrev pub IsCauseOnNew : Layout → Type 0 → ℕ → Hindrance → Type 0
-IsCauseOnNew l rose blocks (hindrance.Full needed used total) =
-    (needed ≡ blocks) × (used ≡ 0) × (total ≡ data_blocks l) × (total < needed)
-IsCauseOnNew l rose blocks (hindrance.TableFull needed cap) = ⊥
-IsCauseOnNew l rose blocks hindrance.Disk = rose
-IsCauseOnNew l rose blocks (hindrance.Down at) = ⊥
-IsCauseOnNew l rose blocks hindrance.Memory = ⊤
+-- Since this count of the disk's faults it has risen where a commit failed.
+pub record IsSince (before : ℕ) (v : VolumeView) : Type 0 where
+  pub early : before ≤ v.seen.faults
+  pub down : IfSome v.down (λ at. Rose before v.seen.faults)
 
--- What a hindrance of an end says.
-abbrev pub IsCauseOfEnd : Type 0 → Hindrance → Type 0
-IsCauseOfEnd rose (hindrance.Down at) = rose
-IsCauseOfEnd rose hindrance.Memory = ⊤
-IsCauseOfEnd rose _ = ⊥
+-- what a volume has between two steps
+abbrev pub stage_of : VolumeView → Stage
+stage_of v = record { table = v.table; faults = v.seen.faults; calls = v.seen.calls; down = v.down }
 
-abbrev pub IfHindered : Reply → (Hindrance → Type 0) → Type 0
-IfHindered (reply.Hindered by) P = P by
-IfHindered _ P = ⊤
-
--- The reply of the first put on an image without files: Full exactly where the blocks don't suffice
--- and nothing is refused, and every other hindrance with its cause.
-pub record IsPutOnNew (l : Layout) (rose : Type 0) (name bytes : List ℕ) (r : Reply) : Type 0 where
-  pub cause : IfHindered r (IsCauseOnNew l rose (blocks_of (length bytes)))
-  pub full : refusal_of no_files 1 (command.Put name bytes) ≡ None → data_blocks l < blocks_of (length bytes)
-      → r ≡ reply.Hindered (hindrance.Full (blocks_of (length bytes)) 0 (data_blocks l))
-
--- an entry's reply on an image without files
-abbrev pub IsAnsweredOnNew : Layout → Type 0 → Command → Reply → Type 0
-IsAnsweredOnNew l rose (command.Put name bytes) r = IsPutOnNew l rose name bytes r
-IsAnsweredOnNew l rose command.End r = IfHindered r (IsCauseOfEnd rose)
-
--- lines and each client's end ran on an image without files
-pub record HasRun (old new : VolumeView) (lines : List Line) (entries : List Entry) : Type 0 where
-  pub order : map line_of entries ≡ exec_order lines
-  pub legal : IsLegal no_files entries
-  pub shows : ShowsWorld (world_after no_files entries) new
-  pub settled : new.down ≡ None → new.is_changed ≡ false
-  pub answered : AllByRecursion (λ e. IsAnsweredOnNew old.table.layout (Rose old.seen.faults new.seen.faults) e.command e.reply) entries
+-- A client's command was decided. The world may give this reply, and the volume shows the next
+-- world. The reply fits the table before, and the table changed so.
+pub record Decides (old new : VolumeView) (client : ℕ) (c : Command) (r : Reply) : Type 0 where
+  pub world : (w : World) → ShowsWorld w old
+      → MayReply w client c r × ShowsWorld (world_with w client c r) new
+  pub fits : Fits old.table (Rose old.seen.faults new.seen.faults) c r
+  pub changes : Changes old.table c r new.table
+  pub down : GoesDown old.down new.down (stage_of old) c r (stage_of new)
   pub elapses : Elapses old.seen new.seen
-  pub down : IfSome new.down (λ _. Rose old.seen.faults new.seen.faults)
+  -- what was done before an end is durable, unless a commit failed
+  pub settled : c ≡ command.End → new.down ≡ None → new.is_changed ≡ false
+
+-- The same of a command that only tells what there is.
+pub record Tells (v : VolumeView) (client : ℕ) (c : Command) (r : Reply) : Type 0 where
+  pub world : (w : World) → ShowsWorld w v → MayReply w client c r
+  pub fits : Fits v.table (Rose v.seen.faults v.seen.faults) c r
+  pub up : is_down r ≡ false
+
+-- the commands that are carried out so far
+abbrev pub MayRun : Command → Type 0
+MayRun command.End = ⊤
+MayRun c = IsBuilt c
+
+-- the entry of a line that was decided and answered at one moment
+abbrev pub entry_of : Line → Reply → ℕ → Entry
+entry_of l r at = record {
+  client = l.client;
+  command = l.command;
+  reply = r;
+  decided = at;
+  answered = at;
+}
+
+-- the last of some commands is an end, or there is none
+abbrev pub is_end : Command → Bool
+is_end command.End = true
+is_end _ = false
+
+abbrev pub ends_with_end : List Line → Bool
+ends_with_end [] = true
+ends_with_end (l ∷ []) = is_end l.command
+ends_with_end (l ∷ m ∷ ls) = ends_with_end (m ∷ ls)
+
+-- These entries were decided, one after the other.
+pub record HasRun (old new : VolumeView) (entries : List Entry) : Type 0 where
+  pub world : (w : World) → ShowsWorld w old
+      → IsLegal w entries × ShowsWorld (world_after w entries) new
+  pub kept : IsRun (stage_of old) entries (stage_of new)
+  pub since : (before : ℕ) → IsSince before old → IsSince before new
+  pub elapses : Elapses old.seen new.seen
+  pub down : old.down ≡ None → any_down entries ≡ is_some new.down
+  pub settled : old.is_changed ≡ false → ends_with_end (map line_of entries) ≡ true
+      → new.down ≡ None → new.is_changed ≡ false

@@ -1,5 +1,5 @@
 //! Makes files on a volume.
-ghost use Rattle.std.specs.Prelude.{◌≡◌, ◌+◌, ◌*◌, ◌<◌, ◌≤◌, ◌||◌, ℕ, List, [], ◌∷◌, None, false, length, take, IfOk, IfErr, OnOk, OnErr};
+ghost use Rattle.std.specs.Prelude.{◌≡◌, ◌+◌, ◌*◌, ◌<◌, ◌≤◌, List, [], ◌∷◌, None, false, length, take, IfOk, IfErr, OnOk, OnErr};
 ghost use Rattle.std.specs.List.{list_any};
 ghost use Rattle.std.specs.Option.{option_map};
 ghost use Rattle.std.specs.FinMap as map;
@@ -8,11 +8,12 @@ ghost use Rattle.sis_disk.specs.Layout.{data_blocks};
 ghost use Rattle.sis_name.specs.Name.{IsName};
 ghost use Rattle.sis_name.specs.Units.{is_store_name};
 ghost use Rattle.sis_table.specs.declared.edit.Edit.TheVariants as edit;
-ghost use Rattle.sis_table.specs.Volume.{IsTable, blocks_of, used, has_name, same_name, greatest_number, most_nodes};
+ghost use Rattle.sis_table.specs.Volume.{IsTable, blocks_of, used, has_name, greatest_number, most_nodes};
 ghost use Rattle.sis_table.specs.Content.{files_in};
 ghost use Rattle.sis_disk.specs.Record.{live_of};
 ghost use Rattle.sis_table.specs.declared.runs.Run.{Run as ARun};
 ghost use Rattle.sis_cli.specs.Making.{HindersMaking, StagesFile};
+ghost use Rattle.sis_cli.specs.Stages.{AddsFile, limit_of_new};
 
 use sis_disk::Disk;
 use sis_model::Hindrance;
@@ -83,7 +84,7 @@ fn stage_file<D: Disk>(
         < used volume.old.table + blocks_of (length bytes.now)
         → result ≡ Err (Hindrance.Full (blocks_of (length bytes.now)) (used volume.old.table)
         (data_blocks volume.old.table.layout)) }
-    ensures cause { IfErr result (HindersMaking volume.old volume.new name.now (length bytes.now)) }
+    ensures cause { IfErr result (HindersMaking volume.old volume.new name.now bytes.now) }
 
     // What stays.
     ensures is_table { IsTable volume.old.table }
@@ -102,7 +103,7 @@ fn stage_file<D: Disk>(
     Ok(txn)
 }
 
-/// Makes a file of this name with these bytes.
+/// Makes a file of this name with these bytes. No limit may be met.
 pub(crate) fn make_file<D: Disk>(
     volume: &mut Volume<D>,
     alloc: Global,
@@ -113,29 +114,27 @@ pub(crate) fn make_file<D: Disk>(
     requires short { length bytes.now ≤ 65536 }
     requires user { is_store_name name.now ≡ false }
     requires free { list_any (has_name name.now) volume.old.table.nodes ≡ false }
-    requires ids { volume.old.table.next_id < greatest_number }
-    requires nodes { length volume.old.table.nodes < most_nodes }
+    requires limit { limit_of_new volume.old.table ≡ None }
 
     // What it makes.
+    ensures made { OnOk result
+        (AddsFile volume.old.table volume.new.table name.now bytes.now) }
     ensures files { OnOk result (files_in volume.new.table volume.new.seen
         ≡ option_map (λ files. map.insert files name.now bytes.now)
         (files_in volume.old.table volume.old.seen)) }
-    ensures names { OnOk result ((q : List ℕ) → list_any (has_name q) volume.new.table.nodes
-        ≡ (list_any (has_name q) volume.old.table.nodes || same_name name.now q)) }
 
     // Why it doesn't.
     ensures full { data_blocks volume.old.table.layout
         < used volume.old.table + blocks_of (length bytes.now)
         → result ≡ Err (Hindrance.Full (blocks_of (length bytes.now)) (used volume.old.table)
         (data_blocks volume.old.table.layout)) }
-    ensures cause { IfErr result (HindersMaking volume.old volume.new name.now (length bytes.now)) }
+    ensures cause { IfErr result (HindersMaking volume.old volume.new name.now bytes.now) }
 
     // What stays.
     ensures is_table { IsTable volume.old.table }
     ensures err { OnErr result (volume.new.table ≡ volume.old.table) }
     ensures err_files { OnErr result (files_in volume.new.table volume.new.seen
         ≡ files_in volume.old.table volume.old.seen) }
-    ensures layout { volume.new.table.layout ≡ volume.old.table.layout }
     ensures down { volume.new.down ≡ None }
     ensures elapses { Elapses volume.old.seen volume.new.seen }
 {

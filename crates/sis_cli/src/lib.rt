@@ -4,6 +4,7 @@
 mod exit;
 mod fault_line;
 mod files;
+mod running;
 mod session;
 #[cfg(test)]
 mod tests;

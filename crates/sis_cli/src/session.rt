@@ -1,38 +1,45 @@
 //! Carries out commands on a volume.
-ghost use Rattle.std.specs.Prelude.{◌≡◌, ℕ, ◌+◌, ◌<◌, ◌≤◌, ◌++◌, [], ◌∷◌, None, false, All, IfSome, IfOk, OnErr, length};
-ghost use Rattle.sis_disk.specs.Record.{Rose};
-ghost use Rattle.sis_disk.specs.Stops.{Elapses};
-ghost use Rattle.sis_model.specs.World.{World};
-ghost use Rattle.sis_model.specs.Answer.{MayReply, world_with};
-ghost use Rattle.sis_model.specs.declared.command.Command.{Command as ACommand};
+ghost use Rattle.std.specs.Prelude.{◌≡◌, ℕ, ◌+◌, ◌<◌, ◌≤◌, ◌++◌, [], ◌∷◌, None, IfOk, length, take, nat_lt};
+ghost use Rattle.std.specs.Option.{option_map, option_copied};
+ghost use Rattle.sis_model.specs.Answer.{most_names};
 ghost use Rattle.sis_model.specs.declared.command.Command.TheVariants as command;
-ghost use Rattle.sis_table.specs.Volume.{greatest_number, most_nodes, empty_table};
-ghost use Rattle.sis_script.specs.Script.{IsPut};
-ghost use Rattle.sis_cli.specs.Session.{ShowsWorld, HasRun, IsPutOnNew, IfHindered, IsCauseOfEnd, IsAnsweredOnNew};
+ghost use Rattle.sis_table.specs.Volume.{node_named, names_after};
+ghost use Rattle.sis_cli.specs.Session.{Decides, Tells, MayRun};
+ghost use Rattle.sis_cli.specs.Stages.{limit_of_new};
 
 use crate::files::make_file;
 use sis_disk::Disk;
-use sis_model::{Bytes, Command, Entry, History, Line, Reply};
+use sis_model::{Bytes, Command, Hindrance, LimitKind, NameList, Reply, UnsettledList};
 use sis_name::Name;
 use sis_volume::Volume;
 use std::alloc::{AllocError, Global};
 
 /// The most bytes of one put.
 const MOST_BYTES: usize = 65536;
+/// The most names of one list.
+const MOST_NAMES: usize = 100;
+/// The most files of a volume.
+const MOST_FILES: u64 = 65_536;
+/// The greatest id, and the last next id.
+const GREATEST_NUMBER: u64 = 9_223_372_036_854_775_807;
+
+// The limit that one more file would pass.
+fn new_file_limit<D: Disk>(volume: &Volume<D>) -> Option<LimitKind>
+    ensures { result ≡ limit_of_new volume.now.table }
+{
+    if volume.files() >= MOST_FILES {
+        return Some(LimitKind::Files);
+    }
+    if volume.next_id() >= GREATEST_NUMBER {
+        return Some(LimitKind::Ids);
+    }
+    None
+}
 
 fn put<D: Disk>(volume: &mut Volume<D>, alloc: Global, name: &Name, bytes: &Bytes) -> Reply
-    requires up { volume.old.down ≡ None }
-    requires ids { volume.old.table.next_id < greatest_number }
-    requires nodes { length volume.old.table.nodes < most_nodes }
-    ensures world { (w : World) → ShowsWorld w volume.old → (client : ℕ)
-        → MayReply w client (command.Put name.now bytes.now) result
-        × ShowsWorld (world_with w client (command.Put name.now bytes.now) result) volume.new }
-    ensures on_new { volume.old.table ≡ empty_table volume.old.table.layout
-        → IsPutOnNew volume.old.table.layout
-        (Rose volume.old.seen.faults volume.new.seen.faults) name.now bytes.now result }
-    ensures layout { volume.new.table.layout ≡ volume.old.table.layout }
-    ensures down { volume.new.down ≡ None }
-    ensures elapses { Elapses volume.old.seen volume.new.seen }
+    requires { volume.old.down ≡ None }
+    ensures { (client : ℕ)
+        → Decides volume.old volume.new client (command.Put name.now bytes.now) result }
 {
     if bytes.as_slice().len() > MOST_BYTES {
         return Reply::InvalidParameter;
@@ -43,106 +50,113 @@ fn put<D: Disk>(volume: &mut Volume<D>, alloc: Global, name: &Name, bytes: &Byte
     if volume.find(name).is_some() {
         return Reply::Collision;
     }
+    if let Some(kind) = new_file_limit(volume) {
+        return Reply::Hindered {
+            by: Hindrance::Limit { kind },
+        };
+    }
     match make_file(volume, alloc, name, bytes.as_slice()) {
         Ok(()) => Reply::Done,
         Err(by) => Reply::Hindered { by },
     }
 }
 
-fn end<D: Disk>(volume: &mut Volume<D>) -> Reply
+fn size_of<D: Disk>(volume: &Volume<D>, name: &Name) -> Option<u64>
+    ensures { result ≡ option_map (λ n. n.size) (node_named volume.now.table name.now) }
+{
+    let id = volume.find(name)?;
+    match volume.node(id) {
+        Some(node) => Some(node.size),
+        None => None,
+    }
+}
+
+fn stat<D: Disk>(volume: &Volume<D>, name: &Name) -> Reply
+    ensures { (client : ℕ) → Tells volume.now client (command.Stat name.now) result }
+{
+    if name.is_store() {
+        return Reply::AccessDenied;
+    }
+    match size_of(volume, name) {
+        Some(size) => Reply::Sized { size },
+        None => Reply::NotFound,
+    }
+}
+
+// The first names that are greater than another, and whether more follow.
+fn first_names<D: Disk>(
+    volume: &Volume<D>,
+    alloc: Global,
+    after: Option<&Name>,
+) -> Result<(NameList, bool), AllocError>
+    ensures names { IfOk result (λ found. found.0
+        ≡ take most_names (names_after volume.now.table (option_copied after.entry))) }
+    ensures more { IfOk result (λ found. found.1
+        ≡ nat_lt most_names (length (names_after volume.now.table (option_copied after.entry)))) }
+{
+    let mut names = NameList::new(alloc);
+    let mut next = volume.next_file(after);
+    while let Some(id) = next {
+        if names.as_slice().len() == MOST_NAMES {
+            return Ok((names, true));
+        }
+        let node = volume.node(id).unwrap();
+        names.push(node.name.copy(alloc)?)?;
+        next = volume.next_file(Some(&node.name));
+    }
+    Ok((names, false))
+}
+
+fn list<D: Disk>(volume: &Volume<D>, alloc: Global, after: Option<&Name>) -> Reply
+    ensures { (client : ℕ)
+        → Tells volume.now client (command.List (option_copied after.entry)) result }
+{
+    match first_names(volume, alloc, after) {
+        Ok((names, more)) => Reply::Names { names, more },
+        Err(_) => Reply::Hindered {
+            by: Hindrance::Memory,
+        },
+    }
+}
+
+fn space<D: Disk>(volume: &Volume<D>) -> Reply
+    ensures { (client : ℕ) → Tells volume.now client command.Space result }
+{
+    Reply::Space {
+        used: volume.used(),
+        total: volume.total(),
+    }
+}
+
+fn end<D: Disk>(volume: &mut Volume<D>, alloc: Global) -> Reply
     requires { volume.old.down ≡ None }
-    ensures world { (w : World) → ShowsWorld w volume.old → (client : ℕ)
-        → MayReply w client command.End result
-        × ShowsWorld (world_with w client command.End result) volume.new }
-    ensures cause { IfHindered result
-        (IsCauseOfEnd (Rose volume.old.seen.faults volume.new.seen.faults)) }
-    ensures settled { volume.new.down ≡ None → volume.new.is_changed ≡ false }
-    ensures down { IfSome volume.new.down
-        (λ _. Rose volume.old.seen.faults volume.new.seen.faults) }
-    ensures layout { volume.new.table.layout ≡ volume.old.table.layout }
-    ensures elapses { Elapses volume.old.seen volume.new.seen }
+    ensures { (client : ℕ) → Decides volume.old volume.new client command.End result }
 {
     match volume.commit() {
-        Ok(()) => Reply::Ended { closed: 0 },
+        Ok(()) => Reply::Ended {
+            closed: 0,
+            unsettled: UnsettledList::new(alloc),
+        },
         Err(by) => Reply::Hindered { by },
     }
 }
 
-// Adds an entry for a command that was decided and answered now.
-fn record_reply<D: Disk>(
-    history: &mut History,
-    volume: &Volume<D>,
-    client: u8,
-    command: Command,
-    reply: Reply,
-)
-    requires { 0 < history.old.spare }
-    ensures entries { history.new.entries ≡ history.old.entries ++ record {
-      client = client;
-      command = command;
-      reply = reply;
-      decided = volume.now.seen.calls;
-      answered = volume.now.seen.calls;
-    } ∷ [] }
-    ensures spare { history.old.spare ≤ history.new.spare + 1 }
+/// Carries out a client's command. Once a commit failed, each command is answered so.
+pub(crate) fn answer<D: Disk>(volume: &mut Volume<D>, alloc: Global, command: &Command) -> Reply
+    requires { MayRun command.now }
+    ensures { (client : ℕ) → Decides volume.old volume.new client command.now result }
 {
-    let calls = volume.calls();
-    history.push(Entry {
-        client,
-        command,
-        reply,
-        decided: calls,
-        answered: calls,
-    });
-}
-
-/// Runs a client's `put` on an image without files, and then the client's end.
-pub(crate) fn exec_line<D: Disk>(
-    volume: &mut Volume<D>,
-    history: &mut History,
-    alloc: Global,
-    line: Line,
-)
-    requires up { volume.old.down ≡ None }
-    requires new { volume.old.table ≡ empty_table volume.old.table.layout }
-    requires put { IsPut line.command }
-    requires empty { history.old.entries ≡ [] }
-    requires spare { 2 ≤ history.old.spare }
-    ensures { HasRun volume.old volume.new (line ∷ []) history.new.entries }
-{
-    let Line { client, command } = line;
-    let reply = match &command {
+    if let Some(at) = volume.down() {
+        return Reply::Hindered {
+            by: Hindrance::Down { at },
+        };
+    }
+    match command {
         Command::Put { name, bytes } => put(volume, alloc, name, bytes),
-        Command::End => unreachable!(),
-    };
-    record_reply(history, volume, client, command, reply);
-    let reply = end(volume);
-    record_reply(history, volume, client, Command::End, reply);
-}
-
-/// Runs the lines of a script on an image without files, and each client's end.
-pub(crate) fn run_lines<D: Disk>(
-    volume: &mut Volume<D>,
-    alloc: Global,
-    lines: Vec<Line>,
-) -> Result<History, AllocError>
-    requires up { volume.old.down ≡ None }
-    requires new { volume.old.table ≡ empty_table volume.old.table.layout }
-    requires clean { volume.old.is_changed ≡ false }
-    requires few { length lines.items ≤ 1 }
-    requires puts { All (λ l. IsPut l.command) lines.items }
-    ensures ran { IfOk result
-        (λ history. HasRun volume.old volume.new lines.items history.entries) }
-    ensures err { OnErr result (volume.new ≡ volume.old) }
-{
-    let mut lines = lines;
-    let mut history = History::new(alloc);
-    history.reserve(2)?;
-    match lines.pop() {
-        Some(line) => {
-            exec_line(volume, &mut history, alloc, line);
-            Ok(history)
-        }
-        None => Ok(history),
+        Command::Stat { name } => stat(volume, name),
+        Command::List { after } => list(volume, alloc, after.as_ref()),
+        Command::Space => space(volume),
+        Command::End => end(volume, alloc),
+        _ => unreachable!(),
     }
 }

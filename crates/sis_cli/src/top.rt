@@ -1,21 +1,22 @@
 //! The call that the program makes.
-ghost use Rattle.std.specs.Prelude.{◌≡◌, ◌≢◌, ◌⊎◌, ◌+◌, ◌≤◌, ℕ, [], None, false, length, All, IfSome, vec_len};
+ghost use Rattle.std.specs.Prelude.{◌≡◌, ◌⊎◌, ◌*◌, ◌≤◌, ⊤, [], None, false, All, IfSome, ℕ, is_some, true};
+ghost use Rattle.sis_disk.specs.Layout.{IsLayout};
 ghost use Rattle.sis_disk.specs.Record.{live_of, Rose};
 ghost use Rattle.sis_disk.specs.Streams.{Appended, AppendedFront};
-ghost use Rattle.sis_model.specs.World.{no_files};
-ghost use Rattle.sis_model.specs.History.{IsLegal};
-ghost use Rattle.sis_model.specs.Order.{line_of, exec_order};
-ghost use Rattle.sis_table.specs.Volume.{empty_table};
+ghost use Rattle.sis_table.specs.Good.{IsGood};
+ghost use Rattle.sis_table.specs.Volume.{IsTable};
 ghost use Rattle.sis_script.specs.Printed.{printed};
-ghost use Rattle.sis_script.specs.Script.{IsPut};
+ghost use Rattle.sis_script.specs.Script.{IsBuilt};
 ghost use Rattle.sis_volume.specs.Opening.{OnlyReads};
-ghost use Rattle.sis_cli.specs.Words.{texts};
-ghost use Rattle.sis_cli.specs.Run.{ExitCause, CauseOfEnd, LeavesRun, Serves, IsAccepted, HasCalls, AreAnswered, HoldsFilesAfter};
+ghost use Rattle.sis_cli.specs.Words.{texts, plan_of};
+ghost use Rattle.sis_cli.specs.Run.{IfExec, IfFormat, ExitCause, IsAccepted, HasCalls, IsHistory};
+ghost use Rattle.sis_cli.specs.Run.{IsFormatted, CauseOfEnd, LeavesRun, Serves, Formats};
+ghost use Rattle.sis_cli.specs.Run.{TellsDown, WritesAll, Spares, IfRefused, TakesScript};
 
-use crate::exit::{fault_count, open_exit, print_exit, script_exit};
-use crate::session::run_lines;
-use crate::{Exit, Outcome, Verb, plan};
-use sis_disk::{Disk, Guids, Sink, Source};
+use crate::exit::{fault_count, format_exit, open_exit, print_exit, script_exit};
+use crate::running::run_lines;
+use crate::{Exit, Outcome, plan};
+use sis_disk::{Disk, Guids, Layout, Sink, Source};
 use sis_model::{History, Line};
 use sis_script::{Script, print_history, read_script};
 use sis_volume::{Refused, Volume};
@@ -45,8 +46,9 @@ fn print_end<D: Disk, K: Sink>(
     requires before { before ≤ volume.now.seen.faults }
     requires down { IfSome volume.now.down (λ _. Rose before volume.now.seen.faults) }
     ensures up { result ≡ Exit.Done → volume.now.down ≡ None }
-    ensures printed { result ≡ Exit.Done
-        → Appended (K.held out.old) (K.held out.new) (printed history.now.entries) }
+    ensures went { (count : ℕ) → result ≡ Exit.Disk count → is_some volume.now.down ≡ true }
+    ensures written { WritesAll result
+        (Appended (K.held out.old) (K.held out.new) (printed history.now.entries)) }
     ensures front { AppendedFront (K.held out.old) (K.held out.new) (printed history.now.entries) }
     ensures cause { CauseOfEnd (record {
       disk = before;
@@ -69,7 +71,7 @@ fn print_end<D: Disk, K: Sink>(
     Exit::Done
 }
 
-// Runs the lines of a script on an image without files, and prints what was answered.
+// Runs the lines of a script on an opened volume, and prints what was answered.
 fn exec_lines<D: Disk, K: Sink>(
     alloc: Global,
     volume: Volume<D>,
@@ -79,21 +81,23 @@ fn exec_lines<D: Disk, K: Sink>(
 ) -> Outcome<D>
     requires before { before ≤ volume.seen.faults }
     requires up { volume.down ≡ None }
-    requires new { volume.table ≡ empty_table volume.table.layout }
+    requires good { IsGood volume.table }
     requires clean { volume.is_changed ≡ false }
-    requires few { length lines.items ≤ 1 }
-    requires puts { All (λ l. IsPut l.command) lines.items }
-    ensures { LeavesRun volume.table.layout lines.items (record {
+    requires built { All (λ l. IsBuilt l.command) lines.items }
+    ensures runs { LeavesRun volume lines.items (record {
       disk = before;
       disk_now = (D.seen result.disk).faults;
       source = 0;
       source_now = 0;
       sink = K.faults out.old;
       sink_now = K.faults out.new;
-    }) (K.held out.old) (K.held out.new) (live_of (D.seen result.disk)) result.status
+    }) (K.held out.old) (K.held out.new) (D.seen result.disk) result.status
         result.history.entries }
+    ensures table { IsTable volume.table }
+    ensures size { volume.seen.size ≡ 4096 * volume.table.layout.total }
 {
     let mut volume = volume;
+    let _ = volume.layout();
     match run_lines(&mut volume, alloc, lines) {
         Ok(history) => {
             let status = print_end(alloc, &volume, before, &history, out);
@@ -114,16 +118,15 @@ fn exec<D: Disk, S: Source, K: Sink>(
     input: &mut S,
     out: &mut K,
 ) -> Outcome<D>
-    ensures { Serves (S.left input.old) (live_of (D.seen disk))
-        (OnlyReads 3 (D.seen disk) (D.seen result.disk)) (record {
+    ensures { Serves (S.left input.old) (S.left input.new) (D.seen disk) (D.seen result.disk)
+        (record {
           disk = (D.seen disk).faults;
           disk_now = (D.seen result.disk).faults;
           source = S.faults input.old;
           source_now = S.faults input.new;
           sink = K.faults out.old;
           sink_now = K.faults out.new;
-        }) (K.held out.old) (K.held out.new) (live_of (D.seen result.disk)) result.status
-        result.history.entries }
+        }) (K.held out.old) (K.held out.new) result.status result.history.entries }
 {
     let lines = match read_script(alloc, input) {
         Ok(Script { lines, schedule: _ }) => lines,
@@ -139,6 +142,21 @@ fn exec<D: Disk, S: Source, K: Sink>(
     }
 }
 
+// Makes the disk an image without files.
+fn format<D: Disk>(alloc: Global, disk: D, layout: Layout) -> Outcome<D>
+    requires { IsLayout layout }
+    ensures { Formats layout (D.seen disk) (D.seen result.disk) result.status
+        result.history.entries }
+{
+    let mut disk = disk;
+    let before = disk.faults();
+    let status = match Volume::format(alloc, &mut disk, layout) {
+        Ok(()) => Exit::Done,
+        Err(fault) => format_exit(fault, fault_count(before, disk.faults())),
+    };
+    ended(alloc, status, disk)
+}
+
 /// Serves the command that the words are: reads its input, carries it out on the disk's image, and
 /// writes its output.
 ///
@@ -152,30 +170,41 @@ pub fn run<D: Disk, S: Source, K: Sink, G: Guids>(
     out: &mut K,
     guids: G,
 ) -> Outcome<D>
-    // The answers are those of one legal history of separate files.
-    ensures legal { IsLegal no_files result.history.entries }
+    // A script's answers are those of one legal history of separate files, which the image holds at
+    // the start and at the end; each hindrance has its cause in the table before it.
+    ensures history { IfExec (plan_of (texts words.now)) (IsHistory (D.seen disk)
+        (D.seen result.disk) result.status result.history.entries) ⊤ }
 
     // It has the script's calls, each once, in order; or none, where the run ended before the first.
-    ensures calls { IfSome (S.left input.old) (λ bytes. HasCalls result.status
-        (OnlyReads 3 (D.seen disk) (D.seen result.disk)) bytes result.history.entries) }
+    ensures calls { IfExec (plan_of (texts words.now)) (HasCalls result.status
+        (OnlyReads 3 (D.seen disk) (D.seen result.disk)) (S.left input.old)
+        result.history.entries) (result.history.entries ≡ []) }
 
-    // Each hindrance has its cause, and Full comes exactly where the blocks don't suffice.
-    ensures answers { AreAnswered (live_of (D.seen disk)) (D.seen disk).faults
-        (D.seen result.disk).faults result.history.entries }
+    // What was refused leaves the disk as it was, and nothing else takes of the input.
+    ensures spared { Spares result.status (D.seen disk) (D.seen result.disk) }
+    ensures unformatted { IfFormat (plan_of (texts words.now)) (λ layout.
+        IfRefused result.status (D.seen result.disk ≡ D.seen disk)) }
+    ensures input { IfExec (plan_of (texts words.now))
+        (TakesScript result.status (S.left input.old) (S.left input.new))
+        (S.left input.new ≡ S.left input.old) }
 
-    // The bytes written are the printed history, or a front of it.
-    ensures printed { result.status ≡ Exit.Done
-        → Appended (K.held out.old) (K.held out.new) (printed result.history.entries) }
+    // `Done` comes only where no commit failed, and `Disk` after the lines only where one did.
+    ensures down { IfExec (plan_of (texts words.now)) (TellsDown result.status
+        (OnlyReads 3 (D.seen disk) (D.seen result.disk)) result.history.entries) ⊤ }
+
+    // The bytes written are the printed history, or a front of it where the sink or memory failed.
+    ensures written { WritesAll result.status
+        (Appended (K.held out.old) (K.held out.new) (printed result.history.entries)) }
     ensures front { AppendedFront (K.held out.old) (K.held out.new)
         (printed result.history.entries) }
 
-    // The image then holds the files after that history.
-    ensures image { result.status ≡ Exit.Done
-        → IfSome (live_of (D.seen result.disk)) (HoldsFilesAfter result.history.entries) }
+    // A formatted image has no files, and is stable.
+    ensures formatted { IfFormat (plan_of (texts words.now)) (λ layout. result.status ≡ Exit.Done
+        → IsFormatted layout (D.seen result.disk)) }
 
     // Why it ends so.
-    ensures cause { ExitCause (texts words.now) (S.left input.old) (live_of (D.seen disk))
-        (record {
+    ensures cause { ExitCause (plan_of (texts words.now)) (S.left input.old)
+        (live_of (D.seen disk)) (D.seen disk).size (record {
           disk = (D.seen disk).faults;
           disk_now = (D.seen result.disk).faults;
           source = S.faults input.old;
@@ -183,8 +212,8 @@ pub fn run<D: Disk, S: Source, K: Sink, G: Guids>(
           sink = K.faults out.old;
           sink_now = K.faults out.new;
         }) result.status }
-    ensures complete { IsAccepted (texts words.now) (S.left input.old) (live_of (D.seen disk))
-        (record {
+    ensures complete { IsAccepted (plan_of (texts words.now)) (S.left input.old)
+        (live_of (D.seen disk)) (D.seen disk).size (record {
           disk = (D.seen disk).faults;
           disk_now = (D.seen result.disk).faults;
           source = S.faults input.old;
@@ -194,10 +223,12 @@ pub fn run<D: Disk, S: Source, K: Sink, G: Guids>(
         }) → (result.status ≡ Exit.Done) ⊎ (result.status ≡ Exit.Memory) }
 {
     let _ = guids;
-    match plan(alloc, words) {
-        Ok(plan) => match plan.verb {
-            Verb::Exec => exec(alloc, disk, input, out),
-        },
-        Err(fault) => ended(alloc, Exit::from(fault), disk),
+    let plan = match plan(alloc, words) {
+        Ok(plan) => plan,
+        Err(fault) => return ended(alloc, Exit::from(fault), disk),
+    };
+    match plan.layout {
+        Some(layout) => format(alloc, disk, layout),
+        None => exec(alloc, disk, input, out),
     }
 }
