@@ -1,0 +1,190 @@
+#!/usr/bin/env python3
+"""Measures the time of one `put` and one `stat` of a built `sis` at several numbers of files.
+
+The image has 65,536 blocks and areas of 1,024. A time is the difference of two runs on the same
+image, one with many commands and one with one, divided by the commands more. So starting, opening
+and committing are taken out. Each run is repeated, and the least time of each is taken.
+"""
+
+import argparse
+import datetime
+import os
+import platform
+import random
+import subprocess
+import sys
+import tempfile
+import time
+from pathlib import Path
+
+TOP = Path(__file__).resolve().parent.parent
+BLOCK_LEN = 4096
+TOTAL_BLOCKS = 65536
+AREA_BLOCKS = 1024
+# The superblock, the selector and both areas: all of an image but its data blocks.
+FRONT_LEN = BLOCK_LEN * (2 + 2 * AREA_BLOCKS)
+MOST_LINES = 4096
+SIZES = (100, 1000, 10000)
+
+
+def put(name):
+    """The line that makes a file of one byte, which takes one data block."""
+    return f'1 put "{name}" 61\n'
+
+
+def stat(name):
+    """The line that asks for a file's size."""
+    return f'1 stat "{name}"\n'
+
+
+class Volume:
+    """An image file, and the program that is run on it."""
+
+    def __init__(self, program, image):
+        self.program = program
+        self.image = image
+        words = [program, "format", image, str(TOTAL_BLOCKS), str(AREA_BLOCKS), "C"]
+        subprocess.run(words, check=True, stdin=subprocess.DEVNULL)
+
+    def exec(self, lines):
+        """Runs a script, sees that each command was done, and returns the seconds that it took."""
+        script = "".join(lines).encode()
+        words = [self.program, "exec", self.image]
+        start = time.perf_counter()
+        ran = subprocess.run(words, input=script, stdout=subprocess.PIPE, check=True)
+        seconds = time.perf_counter() - start
+        statuses = [line.split(b" ")[2] for line in ran.stdout.splitlines()]
+        if statuses != [b"00000000"] * (len(lines) + 1):
+            sys.exit("run.py: a command was not done: " + ran.stdout[:400].decode(errors="replace"))
+        return seconds
+
+    def front(self):
+        """The bytes before the data blocks."""
+        with open(self.image, "rb") as file:
+            return file.read(FRONT_LEN)
+
+    def put_back(self, front):
+        """Takes back what runs since then made: their data blocks are free once more."""
+        with open(self.image, "r+b") as file:
+            file.write(front)
+            file.flush()
+            os.fsync(file.fileno())
+
+    def seconds_each(self, lines, repeats):
+        """The seconds of one of these commands on the image as it stands, which is kept."""
+        front = self.front()
+        least = {}
+        for _ in range(repeats):
+            for count in (1, len(lines)):
+                taken = self.exec(lines[:count])
+                self.put_back(front)
+                least[count] = min(taken, least.get(count, taken))
+        return (least[len(lines)] - least[1]) / (len(lines) - 1)
+
+
+def measure(volume, puts, stats, repeats):
+    """A row for each number of files: the number, the seconds of a `put`, those of a `stat`."""
+    # Names in no order of their own, the same ones in each run.
+    draw = random.Random(1)
+    names = [f"f{number:07}" for number in draw.sample(range(10**7), SIZES[-1] + puts)]
+    rows = []
+    there = 0
+    for size in SIZES:
+        while there < size:
+            count = min(MOST_LINES, size - there)
+            volume.exec([put(name) for name in names[there : there + count]])
+            there += count
+        asked = draw.choices(names[:there], k=stats)
+        each_put = volume.seconds_each([put(name) for name in names[there : there + puts]], repeats)
+        each_stat = volume.seconds_each([stat(name) for name in asked], repeats)
+        rows.append((size, each_put, each_stat))
+    return rows
+
+
+def micros(seconds):
+    """A time in microseconds, where it is more than runs differ by themselves."""
+    return f"{seconds * 1e6:.2f}" if seconds > 0 else "-"
+
+
+def ratio(part, whole):
+    """How many times the other this one is, where both could be measured."""
+    return f"{part / whole:.2f}" if part > 0 and whole > 0 else "-"
+
+
+def processor():
+    """The processor's name, as the system tells it."""
+    try:
+        for line in Path("/proc/cpuinfo").read_text().splitlines():
+            if line.startswith("model name"):
+                return line.split(":", 1)[1].strip()
+    except OSError:
+        pass
+    return platform.processor() or platform.machine()
+
+
+def report(rows, args):
+    """The table and the machine, as text."""
+    _, least_put, least_stat = rows[0]
+    lines = [
+        f"# {datetime.date.today()}",
+        "",
+        f"An image of {TOTAL_BLOCKS:,} blocks with areas of {AREA_BLOCKS:,}. Puts in a run: "
+        f"{args.puts:,}.",
+        f"Stats in a run: {args.stats:,}. Runs of each kind: {args.repeats}.",
+        "",
+        "| Files | `put`, µs | ratio | `stat`, µs | ratio |",
+        "|---|---|---|---|---|",
+    ]
+    for size, each_put, each_stat in rows:
+        lines.append(
+            f"| {size:,} | {micros(each_put)} | {ratio(each_put, least_put)} "
+            f"| {micros(each_stat)} | {ratio(each_stat, least_stat)} |"
+        )
+    lines += [
+        "",
+        f"Processor: {processor()}, {os.cpu_count()} of them seen.",
+        f"System: {platform.system()} {platform.release()}. Python {platform.python_version()}.",
+    ]
+    return "\n".join(lines) + "\n"
+
+
+def count_of(least, most):
+    """A reader of a number within these limits."""
+
+    def read(text):
+        number = int(text)
+        if not least <= number <= most:
+            raise argparse.ArgumentTypeError(f"{number} is not from {least} to {most}")
+        return number
+
+    return read
+
+
+def main():
+    parser = argparse.ArgumentParser(description=__doc__.splitlines()[0])
+    add = parser.add_argument
+    lines = count_of(2, MOST_LINES)
+    add("sis", nargs="?", help="a built program; else SIS, else crates/sis/out/sis")
+    add("--puts", type=lines, default=100, help="puts in a run (100)")
+    add("--stats", type=lines, default=4000, help="stats in a run (4000)")
+    add("--repeats", type=count_of(1, 1000), default=5, help="runs of each kind (5)")
+    add("--folder", help="where the image of 256 MiB is kept meanwhile")
+    add("--write", action="store_true", help="write bench/results/DATE.md too")
+    args = parser.parse_args()
+
+    default = os.environ.get("SIS") or TOP / "crates/sis/out/sis"
+    program = str(Path(args.sis or default).resolve())
+    if not os.access(program, os.X_OK):
+        sys.exit(f"run.py: {program} is no program: build sis first, or give the path of one")
+    with tempfile.TemporaryDirectory(dir=args.folder) as folder:
+        volume = Volume(program, os.path.join(folder, "bench.img"))
+        text = report(measure(volume, args.puts, args.stats, args.repeats), args)
+    print(text, end="")
+    if args.write:
+        path = TOP / "bench/results" / f"{datetime.date.today()}.md"
+        path.parent.mkdir(exist_ok=True)
+        path.write_text(text)
+
+
+if __name__ == "__main__":
+    main()
