@@ -1,14 +1,14 @@
 //! Single Instance Storage over a volume in one image file: the program `sis`.
 //!
-//! `main` makes the real things (the image file, standard input and output) and calls `run` of
-//! `sis_cli`, whose contract says what it does.
+//! `main` makes the real things (the image file, standard input and output, random GUIDs) and calls
+//! `run` of `sis_cli`, whose contract says what it does.
 #![tactic(auto)]
 
 ghost use Rattle.std.specs.Prelude.{IfSome};
 ghost use Rattle.sis_disk.specs.Layout.{IsLayout};
 
 use sis_cli::{Exit, Plan, plan, run};
-use sis_disk::{CounterGuids, ImageFile, StdSink, StdSource};
+use sis_disk::{ImageFile, RandomGuids, StdSink, StdSource};
 use std::alloc::{AllocError, Global};
 use std::fs::{File, OpenOptions};
 use std::process::ExitCode;
@@ -97,7 +97,7 @@ fn main(rt: HostRuntime) -> io::Result<ExitCode> {
     };
     let mut input = StdSource::new(rt.stdin());
     let mut out = StdSink::new(rt.stdout());
-    let guids = CounterGuids::new(1);
+    let guids = RandomGuids::new(&rt);
     let outcome = run(alloc, &words, disk, &mut input, &mut out, guids);
     Ok(ended(&rt, &outcome.status))
 }

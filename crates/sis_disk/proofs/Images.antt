@@ -4,7 +4,7 @@ use Rattle.std.specs.Prelude.{Result, Ok, Err}
 use Rattle.std.specs.Option.{option_map}
 use Rattle.sis_disk.proofs.Laid.{length-laid, laid_elsewhere, or_left, or_right}
 use Rattle.std.proofs.lemmas.List.{append-nil}
-use Rattle.sis_disk.specs.Record.{Call, DiskRecord, State, Seen, Made, Went, Reads, Writes, Syncs, after, after_all, state_of, with_call}
+use Rattle.sis_disk.specs.Record.{Call, DiskRecord, State, Seen, Made, NotMade, Went, Reads, Writes, Syncs, after, after_all, state_of, with_call}
 use Rattle.sis_disk.proofs.Push.{state_with}
 use Rattle.sis_disk.specs.Stops.{Shows, ShowsAlong, GoesOn, Leaves, with_calls, loosened, Now}
 
@@ -90,3 +90,11 @@ goes_on_weaker P Q (Some r) new f h = (h.0, h.1, along_weaker P Q (state_of r) h
 
 pub leaves_weaker : (P Q : List ℕ → Type 0) (old new : Seen) → ((m : List ℕ) → P m → Q m) → Leaves P old new → Leaves Q old new
 leaves_weaker P Q old new f h = record { told = goes_on_weaker P Q old.told new.told f h.told }
+
+-- a call that was made, where the images before it and after it have P
+pub leaves_made : (P : List ℕ → Type 0) (c : Call) (old new : Seen) → Made c old new → Now (λ s. Shows P s × Shows P (after s c)) old → Leaves P old new
+leaves_made P c old new made here = record { told = told_call P c old.told new.told made.told here }
+
+-- a call that was refused
+pub leaves_none : (P : List ℕ → Type 0) (old new : Seen) → NotMade old new → Now (Shows P) old → Leaves P old new
+leaves_none P old new none here = record { told = told_same P old.told new.told none.told here }

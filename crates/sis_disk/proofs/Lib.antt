@@ -1,9 +1,14 @@
 pub mod Answered
 pub mod Appends
+pub mod Areas
+pub mod Bytes
 pub mod Counts
 pub mod Firm
 pub mod Images
 pub mod Laid
+pub mod LaidRanges
 pub mod Notes
+pub mod Picked
 pub mod Push
+pub mod Replays
 pub mod Taken

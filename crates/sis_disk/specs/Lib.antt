@@ -1,3 +1,4 @@
+pub mod Areas
 pub mod Failing
 pub mod Guid
 pub mod Kept
@@ -5,7 +6,9 @@ pub mod Layout
 pub mod Live
 pub mod Memory
 pub mod MemoryStreams
+pub mod Picks
 pub mod Record
+pub mod Replay
 pub mod Stops
 pub mod Streams
 pub mod Superblock

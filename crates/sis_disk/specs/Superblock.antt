@@ -1,5 +1,5 @@
 -- The first block of an image: how it is spelled and read.
-use Rattle.std.specs.Prelude.{◌≡◌, ℕ, ◌+◌, ◌-◌, ◌*◌, ◌<◌, ◌≤◌, ◌==◌, ◌||◌, ◌≢◌, not, nat_lt, nat_le, nat_eq, Bool, true, false, if◌then◌else◌, List, [], ◌∷◌, ◌++◌, length, take, drop, slice_index, position, replicate, codes, Option, None, Some, Result, Ok, Err}
+use Rattle.std.specs.Prelude.{ℕ, ◌+◌, ◌*◌, ◌==◌, ◌||◌, not, nat_lt, nat_le, nat_eq, Bool, if◌then◌else◌, List, ◌++◌, take, drop, position, replicate, codes, Option, None, Some, Result, Ok, Err}
 use Rattle.std.specs.Cmp.Lexicographic.{pointwise}
 use Rattle.byteorder.specs.Endian.{little_bytes, little_number}
 use Rattle.sis_disk.specs.declared.layout.Layout.{Layout}

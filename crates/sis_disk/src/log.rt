@@ -1,11 +1,13 @@
 //! The calls that a disk in memory keeps, in room that was reserved before, and which it fails.
-ghost use Rattle.std.specs.Prelude.{◌≡◌, ◌+◌, ◌-◌, ◌*◌, ◌/◌, ◌<◌, ◌≤◌, [], ◌∷◌, ◌++◌, length, vec_capacity, IsTrue, IfOk, ◌↔◌};
+ghost use Rattle.std.specs.Prelude.{◌≡◌, ◌+◌, ◌-◌, ◌*◌, ◌/◌, ◌<◌, ◌≤◌, [], ◌∷◌, ◌++◌, length, take, vec_capacity, IsTrue, IfOk, ◌↔◌};
 ghost use Rattle.sis_disk.specs.Record.{with_call};
 ghost use Rattle.sis_disk.specs.Kept.{call_by, call_of, taken, taken_by};
 ghost use Rattle.sis_disk.specs.Memory.{Answers, fails_next};
 ghost use Rattle.sis_disk.specs.Failing.{raised};
+ghost use Rattle.sis_disk.specs.Replay.{AllFit, replayed_after, unplayed};
 
 use crate::DiskFault;
+use crate::replay::Replay;
 use std::alloc::{AllocError, Global};
 use std::marker::Model;
 
@@ -154,5 +156,17 @@ impl Log {
         let noted = Noted { kind, at, len, ok };
         self.push(noted, bytes);
         if ok { Ok(()) } else { Err(self.fault()) }
+    }
+
+    /// What the first `k` calls come to.
+    pub fn replay(&self, alloc: Global, k: u64) -> Result<Replay, AllocError>
+        requires { AllFit self.now.told }
+        ensures { IfOk result (λ replay. replay
+            ≡ replayed_after (unplayed self.now.told.opening) (take k self.now.told.calls)) }
+    {
+        let count = (k as usize).min(self.notes.len());
+        let mut replay = Replay::new(alloc, &self.opening)?;
+        replay.run(&self.notes[..count], &self.row);
+        Ok(replay)
     }
 }

@@ -1,11 +1,13 @@
 //! A disk in memory, which keeps each call, and fails at the calls that it was told.
 ghost use Rattle.std.specs.Prelude.{◌≡◌, ◌+◌, ◌≤◌, ◌++◌, [], length, slice_range, Some, IfOk, OnOk, IfSome};
-ghost use Rattle.sis_disk.specs.Record.{Reads, Writes, Syncs, Went, live_bytes, laid};
+ghost use Rattle.sis_disk.specs.Record.{Reads, Writes, Syncs, IsImageAfter, Went, live_bytes, state_at};
 ghost use Rattle.sis_disk.specs.Live.{sized_by, counted_by};
 ghost use Rattle.sis_disk.specs.Memory.{Answers, seen_of};
+ghost use Rattle.sis_disk.specs.Picks.{picked, settled_at};
 
 use crate::log::{Kind, Log};
-use crate::{Disk, DiskFault};
+use crate::replay::lay;
+use crate::{Disk, DiskFault, Pick};
 use std::alloc::{AllocError, Global};
 use std::marker::Model;
 
@@ -23,12 +25,13 @@ impl Model for Memory {
     ghost use Rattle.std.specs.Prelude.{◌≡◌};
     ghost use Rattle.sis_disk.specs.Record.{live_bytes};
     ghost use Rattle.sis_disk.specs.Memory.{MemoryView};
+    ghost use Rattle.sis_disk.specs.Replay.{AllFit};
 
     ghost Value = { MemoryView };
 
     ghost view = { λ a. a.log };
 
-    ghost invariant = { λ a. a.bytes.items ≡ live_bytes a.log.told };
+    ghost invariant = { λ a. (a.bytes.items ≡ live_bytes a.log.told) × AllFit a.log.told };
 }
 
 impl Memory {
@@ -60,13 +63,21 @@ impl Memory {
     {
         &self.bytes
     }
-}
 
-fn lay(live: &mut Vec<u8>, at: usize, bytes: &[u8])
-    requires { at + length bytes.now ≤ length live.old.items }
-    ensures { live.new.items ≡ laid live.old.items at bytes.now }
-{
-    live[at..at + bytes.len()].copy_from_slice(bytes);
+    /// An image that a stop after the first `k` calls may leave, or after all where there are
+    /// fewer.
+    pub fn image(&self, alloc: Global, k: u64, pick: Pick) -> Result<Vec<u8>, AllocError>
+        ensures picked { IfOk result (λ m.
+            m.items ≡ picked pick (state_at self.now.told k) (settled_at self.now.told k)) }
+        ensures image { IfOk result (λ m. IsImageAfter self.now.told k m.items) }
+
+        // What the two plain picks are.
+        ensures old { pick ≡ Pick.Old → IfOk result (λ m. m.items ≡ settled_at self.now.told k) }
+        ensures new { pick ≡ Pick.New → IfOk result (λ m.
+            m.items ≡ (state_at self.now.told k).live) }
+    {
+        self.log.replay(alloc, k)?.image(alloc, pick)
+    }
 }
 
 impl Disk for Memory {

@@ -1,7 +1,7 @@
 //! Each public call once, with values that were worked out by hand, and the adapters on real files.
 use crate::{
-    CounterGuids, Disk, DiskFault, Guids, ImageFile, Memory, MemorySink, MemorySource, Sink,
-    SinkFault, Source, SourceFault, StdSink, StdSource,
+    CounterGuids, Disk, DiskFault, Guids, ImageFile, Memory, MemorySink, MemorySource, Pick,
+    RandomGuids, Sink, SinkFault, Source, SourceFault, StdSink, StdSource,
 };
 use std::fs;
 use std::fs::{File, OpenOptions};
@@ -21,6 +21,33 @@ fn a_disk_fails_at_its_number_and_refuses_without_room(rt: HostRuntime) -> Resul
     assert_eq!(rt; got, [9, 8]);
     assert_eq!(rt; disk.bytes(), [1, 9, 8, 4].as_slice());
     assert_eq!(rt; (disk.len(), disk.calls(), disk.faults()), (4, 4, 2));
+    Ok(())
+}
+
+#[test]
+fn a_stop_leaves_the_image_that_is_picked(rt: HostRuntime) -> Result<(), Fail> {
+    let alloc = rt.alloc();
+    let bytes = vec![in alloc; 1, 2, 3, 4, 5, 6]?;
+    let mut disk = Memory::new(alloc, bytes, vec![in alloc; 3]?, 256)?;
+    disk.write(0, &[7])?;
+    disk.sync()?;
+    disk.write(1, &[8, 9])?;
+    assert_eq!(rt; disk.write(4, &[0]), Err(DiskFault));
+    let rows = [
+        (0, Pick::Fill(0), [1, 2, 3, 4, 5, 6]),
+        (1, Pick::Old, [1, 2, 3, 4, 5, 6]),
+        (1, Pick::New, [7, 2, 3, 4, 5, 6]),
+        (2, Pick::Fill(0), [7, 2, 3, 4, 5, 6]),
+        (4, Pick::Old, [7, 2, 3, 4, 5, 6]),
+        (4, Pick::New, [7, 8, 9, 4, 5, 6]),
+        (4, Pick::Fill(0), [7, 0, 0, 4, 0, 6]),
+        (4, Pick::Front(1), [7, 8, 3, 4, 5, 6]),
+        (u64::MAX, Pick::Front(2), [7, 8, 9, 4, 5, 6]),
+    ];
+    for (calls, pick, want) in rows {
+        let image = disk.image(alloc, calls, pick)?;
+        assert_eq!(rt; image.as_slice(), want.as_slice(), "{pick:?} after {calls}");
+    }
     Ok(())
 }
 
@@ -79,6 +106,15 @@ fn guids_count_up_in_big_endian_order(rt: HostRuntime) {
     let mut guids = CounterGuids::new(u64::MAX);
     assert_eq!(rt; guids.next(), last);
     assert_eq!(rt; guids.next(), [0; 16]);
+}
+
+#[test]
+fn random_guids_differ_and_have_version_four(rt: HostRuntime) {
+    let mut guids = RandomGuids::new(&rt);
+    let one = guids.next();
+    let two = guids.next();
+    assert_ne!(rt; one, two);
+    assert_eq!(rt; (one[7] >> 4, two[7] >> 4), (4, 4));
 }
 
 #[test]
