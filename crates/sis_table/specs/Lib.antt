@@ -3,6 +3,7 @@ pub mod Edits
 pub mod Good
 pub mod Image
 pub mod Index
+pub mod Opens
 pub mod Reading
 pub mod Runs
 pub mod Spelling
