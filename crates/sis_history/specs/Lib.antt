@@ -1,0 +1,4 @@
+pub mod Cases
+pub mod Durable
+pub mod Loop
+pub mod Stops
