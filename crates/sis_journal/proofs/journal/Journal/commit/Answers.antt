@@ -1,0 +1,52 @@
+use Rattle.std.proofs.Common.{◌≡◌, length, inl, ap, ◌∙◌, arith}
+use Rattle.sis_disk.specs.Areas.{area_bytes}
+use Rattle.sis_disk.specs.Record.{live_of, state_of}
+use Rattle.sis_disk.proofs.Images.{leaves_trans, leaves_weaker}
+use Rattle.sis_journal.specs.Texts.{HoldsText, KeepsData, OldOrNew}
+use Rattle.sis_journal.proofs.Commits.{area_fits, rest_trans}
+use Rattle.sis_journal.proofs.journal.Journal.commit.Goals as goal
+
+pub write_area-requires-clause-fits : goal.write_area-requires-clause-fits
+write_area-requires-clause-fits g c =
+    let text : c.deref.result.now ≡ area_bytes (g.K.Kept.text c.args.value.now) = c.deref.ensures.value ∙ c.spell_area.ensures.text in
+    let fits = area_fits c.self.inside.layout c.self.invariant.0 (g.K.Kept.text c.args.value.now) (rw (← c.self.view_is) at c.requires.fits) in
+    omega (arith, ap length text)
+
+pub returns-in_err-write_area-clause-images : goal.returns-in_err-write_area-clause-images
+returns-in_err-write_area-clause-images g c = rw (← c.self.view_is) (λ r old told keeps.
+    let l = c.self.inside.layout in
+    leaves_weaker (λ m. HoldsText l old m × KeepsData l (state_of r) m) (OldOrNew l old (g.K.Kept.text c.args.value.now) (state_of r)) (g.D.Disk.seen c.args.disk.now) (g.D.Disk.seen c.write_area.new.disk)
+    (λ m h. inl h) (c.write_area.ensures.images r old told keeps))
+
+pub returns-in_err-select_other-clause-images : goal.returns-in_err-select_other-clause-images
+returns-in_err-select_other-clause-images g c = rw (← c.self.view_is) (λ r old told keeps.
+    let l = c.self.inside.layout in
+    let text = g.K.Kept.text c.args.value.now in
+    let P = OldOrNew l old text (state_of r) in
+    leaves_trans P (g.D.Disk.seen c.args.disk.now) (g.D.Disk.seen c.write_area.new.disk) (g.D.Disk.seen c.select_other.new.disk)
+    (leaves_weaker (λ m. HoldsText l old m × KeepsData l (state_of r) m) P (g.D.Disk.seen c.args.disk.now) (g.D.Disk.seen c.write_area.new.disk) (λ m h. inl h) (c.write_area.ensures.images r old told keeps))
+    (c.select_other.ensures.images (state_of r) old text (c.in_ok-write_area.ensures.ok r old text told keeps (c.deref.ensures.value ∙ c.spell_area.ensures.text) (rw (← c.self.view_is) at c.requires.fits))))
+
+pub returns-clause-images : goal.returns-clause-images
+returns-clause-images g c = rw (← c.self.view_is) (λ r old told keeps.
+    let l = c.self.inside.layout in
+    let text = g.K.Kept.text c.args.value.now in
+    let P = OldOrNew l old text (state_of r) in
+    leaves_trans P (g.D.Disk.seen c.args.disk.now) (g.D.Disk.seen c.write_area.new.disk) (g.D.Disk.seen c.select_other.new.disk)
+    (leaves_weaker (λ m. HoldsText l old m × KeepsData l (state_of r) m) P (g.D.Disk.seen c.args.disk.now) (g.D.Disk.seen c.write_area.new.disk) (λ m h. inl h) (c.write_area.ensures.images r old told keeps))
+    (c.select_other.ensures.images (state_of r) old text (c.in_ok-write_area.ensures.ok r old text told keeps (c.deref.ensures.value ∙ c.spell_area.ensures.text) (rw (← c.self.view_is) at c.requires.fits))))
+
+pub returns-clause-kept : goal.returns-clause-kept
+returns-clause-kept g c = rw (← c.self.view_is) (λ r old told keeps.
+    let text = g.K.Kept.text c.args.value.now in
+    c.in_ok-select_other.ensures.ok (state_of r) old text (c.in_ok-write_area.ensures.ok r old text told keeps (c.deref.ensures.value ∙ c.spell_area.ensures.text) (rw (← c.self.view_is) at c.requires.fits)))
+
+pub returns-in_err-select_other-clause-rest : goal.returns-in_err-select_other-clause-rest
+returns-in_err-select_other-clause-rest g c =
+    rw (← c.self.view_is) (rest_trans c.self.inside.layout c.self.invariant.0 c.self.inside.second (live_of (g.D.Disk.seen c.args.disk.now)) (live_of (g.D.Disk.seen c.write_area.new.disk)) (live_of (g.D.Disk.seen c.select_other.new.disk))
+    c.write_area.ensures.rest c.select_other.ensures.rest)
+
+pub returns-clause-rest : goal.returns-clause-rest
+returns-clause-rest g c =
+    rw (← c.self.view_is) (rest_trans c.self.inside.layout c.self.invariant.0 c.self.inside.second (live_of (g.D.Disk.seen c.args.disk.now)) (live_of (g.D.Disk.seen c.write_area.new.disk)) (live_of (g.D.Disk.seen c.select_other.new.disk))
+    c.write_area.ensures.rest c.select_other.ensures.rest)

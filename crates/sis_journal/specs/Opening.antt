@@ -1,0 +1,47 @@
+-- What opening does to a disk, and what it answers.
+use Rattle.std.specs.Prelude.{◌≡◌, ℕ, ◌+◌, ◌≤◌, true, false, List, [], ◌∷◌, Option, Some, None, Result, Err, ⊤}
+use Rattle.std.specs.List.{AllByRecursion}
+use Rattle.sis_disk.specs.Record.{Call, Reads, Writes, Syncs, DiskRecord, Seen, Rose, live_of}
+use Rattle.sis_disk.specs.Stops.{Elapses, with_calls}
+use Rattle.sis_disk.specs.Superblock.{ImageFault}
+use Rattle.sis_journal.specs.declared.fault.OpenFault.{OpenFault}
+use Rattle.sis_journal.specs.declared.fault.OpenFault.TheVariants as faults
+
+-- the fault is the one that reading gives, unless the disk failed or memory ran out
+abbrev pub FailsAs : {V : Type 0} → OpenFault → Result V ImageFault → Type 0
+FailsAs faults.Disk read = ⊤
+FailsAs faults.Memory read = ⊤
+FailsAs (faults.Image at kind) read = read ≡ Err (at, kind)
+FailsAs (faults.Bad kind file index) read = ⊥
+
+-- where the disk failed, its count of faults rose
+abbrev pub Caused : OpenFault → ℕ → ℕ → Type 0
+Caused faults.Disk old new = Rose old new
+Caused faults.Memory old new = ⊤
+Caused (faults.Image at kind) old new = ⊤
+Caused (faults.Bad kind file index) old new = ⊤
+
+abbrev pub IsRead : Call → Type 0
+IsRead (Reads at len ok) = ⊤
+IsRead (Writes at bytes ok) = ⊥
+IsRead (Syncs ok) = ⊥
+
+-- no call, or a sync, and reads alone where it succeeded
+abbrev pub AreSyncThenReads : List Call → Type 0
+AreSyncThenReads [] = ⊤
+AreSyncThenReads (Syncs true ∷ more) = AllByRecursion IsRead more
+AreSyncThenReads (Syncs false ∷ more) = more ≡ []
+AreSyncThenReads (Reads at len ok ∷ more) = ⊥
+AreSyncThenReads (Writes at bytes ok ∷ more) = ⊥
+
+-- the record went on by calls of this kind
+abbrev pub GoesOnBy : (List Call → Type 0) → Option DiskRecord → Option DiskRecord → Type 0
+GoesOnBy Are None new = new ≡ None
+GoesOnBy Are (Some r) new = (more : List Call) × (new ≡ Some (with_calls more r)) × Are more
+
+-- A sync went by, and behind it at most so many reads. So no byte changed.
+pub record SyncThenReads (most : ℕ) (old new : Seen) : Type 0 where
+  pub elapses : Elapses old new
+  pub calls : new.calls ≤ old.calls + most + 1
+  pub told : GoesOnBy AreSyncThenReads old.told new.told
+  pub live : live_of new ≡ live_of old

@@ -1,0 +1,17 @@
+//! One text in an image of two areas: a commit writes the area that isn't selected and then selects
+//! it, so that a stop leaves the old text or the new one.
+#![tactic(auto)]
+
+mod areas;
+mod committing;
+mod fault;
+mod journal;
+mod kept;
+mod opening;
+mod superblock;
+#[cfg(test)]
+mod tests;
+
+pub use fault::{CommitFault, OpenFault};
+pub use journal::Journal;
+pub use kept::{Kept, KeptFault};
