@@ -15,7 +15,7 @@ use Rattle.sis_table.proofs.PutLemmas.{is_used-make, is_used-size, is_used-map, 
 use Rattle.sis_volume.specs.Applying.{marked, marked_by, IsInside}
 use Rattle.sis_volume.proofs.SetBits.{length_set_bits, set_bits_among}
 
-map_inside : (v : VolumeTable) (o : Option Node) (r : Run) → IfThere o (λ n. MayMap v.layout n r) → (first_place v.layout ≤ r.place) × (place_end r ≤ v.layout.total)
+pub map_inside : (v : VolumeTable) (o : Option Node) (r : Run) → IfThere o (λ n. MayMap v.layout n r) → (first_place v.layout ≤ r.place) × (place_end r ≤ v.layout.total)
 map_inside v None r may = absurd may
 map_inside v (Some n) r may = (may.placed.low, may.placed.high)
 
@@ -50,9 +50,8 @@ among_all v (e ∷ es) low n is_low is_n may =
     let same = sym (edited-layout v e) in
     (rw (is_low, len) (inside_is v e may.0), among_all (edited v e) es low n (is_low ∙ ap first_place same) (is_n ∙ ap data_blocks same) may.1)
 
-pub all_inside : (v : VolumeTable) (es : List Edit) (low : ℕ) (bits : List Bool) → low ≡ first_place v.layout → bits ≡ used_places v → MayEditBy v es → All (IsInside low (length bits)) es
-all_inside v es low bits is_low is may =
-    All-from_recursion (IsInside low (length bits)) es (among_all v es low (length bits) is_low (ap (λ (bs : List Bool). length bs) is ∙ length-used_places v) may)
+pub all_inside : (v : VolumeTable) (es : List Edit) (low : ℕ) (bits : List Bool) → low ≡ first_place v.layout → length bits ≡ data_blocks v.layout → MayEditBy v es → All (IsInside low (length bits)) es
+all_inside v es low bits is_low is may = All-from_recursion (IsInside low (length bits)) es (among_all v es low (length bits) is_low is may)
 
 -- the marks of edits are the mapped places of the table after them
 pub marked_by_is : (v : VolumeTable) (es : List Edit) (low : ℕ) → low ≡ first_place v.layout → MayEditBy v es → marked_by low es (used_places v) ≡ used_places (edited_by v es)
@@ -61,7 +60,7 @@ marked_by_is v (e ∷ es) low is_low may =
     ap (marked_by low es) (ap (λ (n : ℕ). marked n e (used_places v)) is_low ∙ marked_is v e may.0)
     ∙ marked_by_is (edited v e) es low (is_low ∙ ap first_place (sym (edited-layout v e))) may.1
 
-length-marked : (low : ℕ) (e : Edit) (bits : List Bool) → IsInside low (length bits) e → length (marked low e bits) ≡ length bits
+pub length-marked : (low : ℕ) (e : Edit) (bits : List Bool) → IsInside low (length bits) e → length (marked low e bits) ≡ length bits
 length-marked low (edit.Make id name) bits inside = refl
 length-marked low (edit.Size id size) bits inside = refl
 length-marked low (edit.Map id first count place) bits inside = let begins = inside.0 in let ends = inside.1 in length_set_bits (place - low) count bits (omega arith)
@@ -70,6 +69,10 @@ length-marked low (edit.Map id first count place) bits inside = let begins = ins
 pub record IsMarking (low : ℕ) (first bits : List Bool) (es : List Edit) (i : ℕ) : Type 0 where
   pub size : length bits ≡ length first
   pub left : marked_by low (drop i es) bits ≡ marked_by low es first
+
+-- no edit is marked yet
+pub marking_none : (low : ℕ) (bits : List Bool) (es : List Edit) → IsMarking low bits bits es 0
+marking_none low bits es = record { size = refl; left = refl }
 
 pub marking_inside : (low : ℕ) (first bits : List Bool) (es : List Edit) (i : ℕ) (e : Edit) → All (IsInside low (length first)) es → i < length es → e ≡ get_or es i e
     → IsMarking low first bits es i → IsInside low (length bits) e

@@ -1,15 +1,17 @@
+mod Applied
 mod Bitmaps
 mod Calls
-mod Commits
+mod Committed
+mod Covered
 mod Edited
+pub mod Fronts
 pub mod HeldLaws
-mod Keeps
 pub mod NewImages
 mod SetBits
+mod Slices
+mod Spared
 mod Spares
 mod Staged
-pub mod OpeningImages
-pub mod OpeningKept
-pub mod OpeningReads
-pub mod OpeningTables
-pub mod SuperblockLaws
+mod Unheld
+pub mod Volumes
+mod Written

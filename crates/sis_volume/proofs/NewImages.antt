@@ -9,14 +9,15 @@ use Rattle.sis_disk.specs.Layout.{IsLayout}
 use Rattle.sis_disk.specs.Record.{Seen, laid, live_of, live_bytes}
 use Rattle.sis_disk.specs.Superblock.{superblock, magic}
 use Rattle.sis_disk.proofs.Laid.{length-laid}
-use Rattle.sis_table.specs.Image.{Holds, area_start, selected_at, area_text}
+use Rattle.sis_disk.specs.Areas.{area_start, selected_at}
+use Rattle.sis_table.specs.Image.{Holds, area_text}
 use Rattle.sis_table.specs.Spelling.{le4, le8}
 use Rattle.sis_table.specs.Volume.{IsTable, empty_table}
 use Rattle.sis_table.proofs.ImageLemmas.{length-area_text}
 use Rattle.sis_table.proofs.Lengths.{length-spelling}
 use Rattle.sis_volume.specs.Formatting.{new_blocks}
 use Rattle.sis_volume.proofs.Calls.{sized_live}
-use Rattle.sis_volume.proofs.Keeps.{slice_kept, index_kept}
+use Rattle.sis_volume.proofs.Fronts.{slice_kept, index_kept}
 
 empty_is : (l : Layout) → IsLayout l → IsTable (empty_table l)
 empty_is l is = record { layout = is; next_low = omega arith; next_high = omega arith; greatest = omega arith; few = omega arith; nodes = tt }

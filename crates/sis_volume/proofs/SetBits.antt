@@ -1,7 +1,7 @@
 -- Bitmaps with neighbouring bits set: how many are set then, and of which runs they tell.
 use Rattle.std.proofs.Common.{◌≡◌, ℕ, zero, suc, ◌+◌, ◌-◌, ◌<◌, ◌≤◌, inl, inr, Bool, true, false, cond, not, List, [], ◌∷◌, ◌++◌, length, take, drop, map, get_or, replicate, refl, sym, ap, ◌∙◌, subst, arith, append_assoc, length-append, length-drop}
 use Rattle.std.specs.Prelude.{nat_le, nat_lt, ◌&&◌, ◌||◌, count_by, slice_range}
-use Rattle.std.specs.List.{All, AllByRecursion, list_any, range_with_len}
+use Rattle.std.specs.List.{All, AllByRecursion, list_any, prefix_len, range_with_len}
 use Rattle.std.proofs.Math.Bool.{or-false, or-true}
 use Rattle.std.proofs.lemmas.Bool.{cases_lt}
 use Rattle.std.proofs.lemmas.Bool.Decides.{nat_tests}
@@ -10,7 +10,7 @@ use Rattle.std.proofs.lemmas.List.Concat.{flat_map-append}
 use Rattle.std.proofs.lemmas.List.Elements.{All-from_recursion}
 use Rattle.std.proofs.lemmas.List.Folds.{list_any-append}
 use Rattle.std.proofs.lemmas.List.FromFn.{get_or-map-range_with_len, length-map-range_with_len}
-use Rattle.std.proofs.lemmas.List.Sums.{sum_by-append, count_by-le-length}
+use Rattle.std.proofs.lemmas.List.Sums.{sum_by-append, count_by-le-length, prefix_len-le-length}
 use Rattle.sis_disk.specs.declared.layout.Layout.{Layout}
 use Rattle.sis_disk.specs.Layout.{IsLayout, first_place, data_blocks}
 use Rattle.sis_table.specs.declared.runs.Run.{Run}
@@ -22,6 +22,7 @@ use Rattle.sis_table.proofs.EditLemmas.{all_nodes}
 use Rattle.sis_table.proofs.PutLemmas.{same_map_over}
 use Rattle.sis_volume.specs.Applying.{set_bits}
 use Rattle.sis_volume.specs.Places.{IsAmong, Marks}
+use Rattle.sis_volume.proofs.Bitmaps.{leading_all, leading_each}
 use Rattle.sis_volume.proofs.Spares.{counted, count-cons}
 
 pub length_set_bits : (start count : ℕ) (bits : List Bool) → start + count ≤ length bits → length (set_bits start count bits) ≡ length bits
@@ -33,7 +34,7 @@ length_set_bits start count bits within =
     let back = length-drop (start + count) bits in
     omega arith
 
-get_set_bits : (start count : ℕ) (bits : List Bool) (k : ℕ) (d : Bool) → start + count ≤ length bits → k < length bits
+pub get_set_bits : (start count : ℕ) (bits : List Bool) (k : ℕ) (d : Bool) → start + count ≤ length bits → k < length bits
     → get_or (set_bits start count bits) k d ≡ (get_or bits k d || (nat_le start k && nat_lt k (start + count)))
 get_set_bits start count bits k d within lt =
     let front : length (take start bits) ≡ start = length-take-le start bits (omega arith) in
@@ -93,6 +94,15 @@ all_set : (n : ℕ) → count_by (λ b. b) (replicate n true) ≡ n
 all_set zero = refl
 all_set (suc n) = omega (arith, all_set n, count-cons (λ (b : Bool). b) true (replicate n true))
 
+-- bits at the front that are set stay so
+pub leading-set_bits : (start count full : ℕ) (bits : List Bool) → start + count ≤ length bits → full ≤ prefix_len (λ b. b) bits
+    → full ≤ prefix_len (λ b. b) (set_bits start count bits)
+leading-set_bits start count full bits within le =
+    let long = prefix_len-le-length (λ (b : Bool). b) bits in
+    let len = length_set_bits start count bits within in
+    leading_all (set_bits start count bits) full (omega arith) (λ i lt.
+    get_set_bits start count bits i false within (omega arith) ∙ ap (λ (b : Bool). b || (nat_le start i && nat_lt i (start + count))) (leading_each bits i (omega arith)))
+
 pub count_set_bits : (start count : ℕ) (bits : List Bool) → start + count ≤ length bits
     → count_by (λ b. b) (set_bits start count bits) ≡ count_by (λ b. b) bits + count_by not (slice_range bits start (start + count))
 count_set_bits start count bits within =
@@ -124,7 +134,7 @@ count_fits start count bits within =
     let most = count_by-le-length (λ (b : Bool). b) (set_bits start count bits) in
     omega arith
 
-pub ruleset counts = (count_set_bits, count_fits)
+pub ruleset counts = (count_set_bits, count_fits, leading-set_bits)
 
 -- ---- of which runs they tell
 

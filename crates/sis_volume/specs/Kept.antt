@@ -1,27 +1,50 @@
 -- What a volume keeps between any two calls.
-use Rattle.std.specs.Prelude.{◌≡◌, ℕ, ◌*◌, ◌≤◌, ◌==◌, Bool, false, List, length, take, slice_index, IfSome}
-use Rattle.sis_disk.specs.Record.{Seen, live_of}
-use Rattle.sis_disk.specs.Layout.{table_cap}
-use Rattle.sis_disk.specs.Superblock.{superblock}
+use Rattle.std.specs.Prelude.{◌≡◌, ℕ, ◌-◌, ◌*◌, ◌≤◌, Bool, true, false, List, length, slice_index_or, Option, None}
+use Rattle.sis_disk.specs.Record.{Seen, State}
+use Rattle.sis_disk.specs.Stops.{IsFirm, Now}
+use Rattle.sis_disk.specs.Layout.{first_place, data_blocks, table_cap}
 use Rattle.sis_disk.specs.declared.layout.Layout.{Layout}
-use Rattle.sis_table.specs.Volume.{VolumeTable, IsTable, used_places}
+use Rattle.sis_journal.specs.Texts.{KeepsText}
+use Rattle.sis_journal.specs.View.{JournalView}
+use Rattle.sis_table.specs.Volume.{VolumeTable, IsTable, is_used, used_places}
 use Rattle.sis_table.specs.Spelling.{spelling}
-use Rattle.sis_table.specs.Image.{Holds}
 
--- the image has this superblock, and its selector names this area
-pub record IsLaidOut (l : Layout) (second : Bool) (live : List ℕ) : Type 0 where
-  pub first_block : take 4096 live ≡ superblock l
-  pub selector : (slice_index live 4096 == 1) ≡ second
+-- the bit of a place is set, in a bitmap of the data blocks
+abbrev pub is_held : Layout → List Bool → ℕ → Bool
+is_held l held place = slice_index_or held (place - first_place l) false
 
--- The bitmap has the mapped places, the buffer has room for an area, the table fits its area, the
--- image is laid out as the layout says, and without an edit since the last commit it holds the
--- table.
-pub record IsKept (v : VolumeTable) (second : Bool) (bitmap : List Bool) (room : ℕ)
-    (is_changed : Bool) (seen : Seen) : Type 0 where
+-- each place that the table maps has its bit set
+abbrev pub IsCovered : VolumeTable → List Bool → Type 0
+IsCovered v held =
+    (place : ℕ) → is_used v.nodes place ≡ true → is_held v.layout held place ≡ true
+
+-- The disk keeps this table: its text, and no position of a place that it maps is loose.
+pub record KeepsTable (second : Bool) (c : VolumeTable) (s : State) : Type 0 where
+  pub text : KeepsText c.layout second (spelling c) s
+  pub firm : (place : ℕ) → is_used c.nodes place ≡ true → IsFirm s.loose (4096 * place) 4096
+
+-- There is a committed table. Its places are held, and without an edit since the last commit it is
+-- the current one.
+pub record HasCommitted (v : VolumeTable) (second : Bool) (held : List Bool) (is_changed : Bool)
+    (seen : Seen) : Type 0 where
+  pub committed : VolumeTable
+  pub table : IsTable committed
+  pub layout : committed.layout ≡ v.layout
+  pub covered : IsCovered committed held
+  pub same : is_changed ≡ false → committed ≡ v
+  pub stays : Now (KeepsTable second committed) seen
+
+-- The bitmaps say what is mapped and what is held, the table fits its area, the journal is one of
+-- its layout, and unless a commit failed there is a committed table.
+pub record IsKept (v : VolumeTable) (j : JournalView) (mapped held : List Bool) (is_changed : Bool)
+    (down : Option ℕ) (seen : Seen) : Type 0 where
   pub table : IsTable v
   pub fits : length (spelling v) ≤ table_cap v.layout
-  pub used : bitmap ≡ used_places v
-  pub buffer : 4096 * v.layout.area ≤ room
+  pub log : v.layout.log ≡ 0
+  pub journal : j.layout ≡ v.layout
   pub size : seen.size ≡ 4096 * v.layout.total
-  pub laid_out : IfSome (live_of seen) (IsLaidOut v.layout second)
-  pub holds : is_changed ≡ false → IfSome (live_of seen) (λ live. Holds live v)
+  pub used : mapped ≡ used_places v
+  pub bits : length held ≡ data_blocks v.layout
+  pub covered : IsCovered v held
+  pub unchanged : is_changed ≡ false → held ≡ used_places v
+  pub committed : down ≡ None → HasCommitted v j.second held is_changed seen

@@ -4,5 +4,8 @@ pub mod Keeping
 pub mod Kept
 pub mod Opening
 pub mod Places
+pub mod Room
 pub mod Staging
+pub mod Stopping
+pub mod Tables
 pub mod View

@@ -4,7 +4,7 @@ use Rattle.std.specs.List.{range_with_len}
 use Rattle.sis_table.specs.declared.runs.Run.{Run}
 use Rattle.sis_table.specs.Good.{is_mapped}
 use Rattle.sis_table.specs.Runs.{place_end}
-use Rattle.sis_volume.specs.declared.places.Stretch.{Stretch}
+use Rattle.sis_volume.specs.declared.bitmap.Stretch.{Stretch}
 
 -- how many places are free
 abbrev pub free_in : List Bool → ℕ

@@ -1,5 +1,7 @@
 -- What staging writes, and where.
-use Rattle.std.specs.Prelude.{◌≡◌, ℕ, ◌+◌, ◌<◌, ◌≤◌, false, List, [], ◌∷◌, ◌++◌, map, flat_map, Option, IfSome, ⊤}
+use Rattle.std.specs.Prelude.{◌≡◌, ℕ, ◌+◌, ◌<◌, ◌≤◌, Bool, false, List, [], ◌∷◌, ◌++◌, map, flat_map, Option, IfSome, ⊤}
+use Rattle.std.specs.List.{AllByRecursion}
+use Rattle.sis_disk.specs.declared.layout.Layout.{Layout}
 use Rattle.sis_disk.specs.Record.{Seen, Rose}
 use Rattle.sis_model.specs.declared.reply.Hindrance.{Hindrance}
 use Rattle.sis_model.specs.declared.reply.Hindrance.TheVariants as hindrance
@@ -9,7 +11,8 @@ use Rattle.sis_table.specs.Volume.{VolumeTable, is_used}
 use Rattle.sis_table.specs.Edits.{map_edit}
 use Rattle.sis_table.specs.Content.{run_bytes}
 use Rattle.sis_table.specs.declared.runs.Run.{Run}
-use Rattle.sis_volume.specs.View.{TxnView}
+use Rattle.sis_volume.specs.Kept.{is_held}
+use Rattle.sis_volume.specs.View.{TxnView, VolumeView}
 
 -- no file maps a place of the run, and it lies among the data blocks
 pub record IsFree (v : VolumeTable) (r : Run) : Type 0 where
@@ -22,13 +25,19 @@ abbrev pub AreFree : VolumeTable → ℕ → ℕ → List Run → Type 0
 AreFree v from to [] = from ≤ to
 AreFree v from to (r ∷ rs) = (from ≤ r.place) × IsFree v r × AreFree v (place_end r) to rs
 
--- Blocks of a file, from `first` on, were written to free places that no earlier edit of the
--- transaction was given, and are mapped by its new edits.
-pub record Stages (v : VolumeTable) (old new : TxnView) (file first blocks : ℕ) (bytes : List ℕ)
+-- neither the current table nor the committed one maps a place of the run
+abbrev pub IsUnheld : Layout → List Bool → Run → Type 0
+IsUnheld l held r =
+    (place : ℕ) → r.place ≤ place → place < place_end r → is_held l held place ≡ false
+
+-- Blocks of a file, from `first` on, were written to places that neither table maps and no earlier
+-- edit of the transaction was given, and are mapped by its new edits.
+pub record Stages (v : VolumeView) (old new : TxnView) (file first blocks : ℕ) (bytes : List ℕ)
     (live : Option (List ℕ)) (runs : List Run) : Type 0 where
   pub edits : new.edits ≡ old.edits ++ map (map_edit file) runs
   pub chain : IsChain first (first + blocks) runs
-  pub places : AreFree v old.from new.from runs
+  pub places : AreFree v.table old.from new.from runs
+  pub uncommitted : AllByRecursion (IsUnheld v.table.layout v.held) runs
   pub written : IfSome live (λ now. flat_map (run_bytes now) runs ≡ bytes)
 
 -- why staging may fail: want of memory, or a fault of the disk

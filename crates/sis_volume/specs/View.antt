@@ -1,27 +1,34 @@
 -- What a `Volume` and a `Txn` show.
-use Rattle.std.specs.Prelude.{ℕ, Bool, not, ◌&&◌, nat_le, List, count_by, Option}
+use Rattle.std.specs.Prelude.{ℕ, ◌-◌, Bool, not, List, drop, count_by, Option}
+use Rattle.sis_disk.specs.declared.layout.Layout.{Layout}
+use Rattle.sis_disk.specs.Layout.{first_place}
 use Rattle.sis_disk.specs.Record.{Seen}
-use Rattle.sis_table.specs.Volume.{VolumeTable, is_used, data_places}
+use Rattle.sis_table.specs.Volume.{VolumeTable}
 use Rattle.sis_table.specs.declared.edit.Edit.{Edit}
 
--- what is seen of the disk, the current table, whether it was edited since the last commit, and the
--- disk's call by which a commit failed
+-- What is seen of the disk, the current table, for each data block whether the current table or the
+-- committed one maps it, whether the table was edited since the last commit, and the disk's call by
+-- which a commit failed.
 pub record VolumeView : Type 0 where
   pub seen : Seen
   pub table : VolumeTable
+  pub held : List Bool
   pub is_changed : Bool
   pub down : Option ℕ
 
--- the edits, and the place from which on free places are still to be given out
+-- the edits, and the place from which on spare places are still to be given out
 pub record TxnView : Type 0 where
   pub edits : List Edit
   pub from : ℕ
 
--- how many places of data blocks from this one on no file maps
-abbrev pub spare_from : VolumeTable → ℕ → ℕ
-spare_from v from =
-    count_by (λ place. nat_le from place && not (is_used v.nodes place)) (data_places v.layout)
+-- how many data blocks from this place on aren't held
+abbrev pub spare_in : Layout → List Bool → ℕ → ℕ
+spare_in l held from = count_by not (drop (from - first_place l) held)
 
--- how many data blocks no file maps
-abbrev pub spare : VolumeTable → ℕ
+-- how many data blocks from this place on neither the current table nor the committed one maps
+abbrev pub spare_from : VolumeView → ℕ → ℕ
+spare_from v from = spare_in v.table.layout v.held from
+
+-- how many data blocks neither of the two maps
+abbrev pub spare : VolumeView → ℕ
 spare v = spare_from v 0

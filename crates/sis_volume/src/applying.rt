@@ -1,7 +1,7 @@
 //! Edits of the table in memory. Nothing is written.
 ghost use Rattle.std.specs.Prelude.{◌≡◌, ◌<◌, length, OnOk, OnErr, IfErr, IsErr, true};
 ghost use Rattle.std.specs.List.{All};
-ghost use Rattle.sis_disk.specs.Layout.{table_cap};
+ghost use Rattle.sis_disk.specs.Layout.{first_place, table_cap};
 ghost use Rattle.sis_table.specs.Spelling.{spelling};
 ghost use Rattle.sis_table.specs.Edits.{edited_by, MayEditBy};
 ghost use Rattle.sis_volume.specs.Applying.{HindersApplying, IsInside, marked, marked_by};
@@ -13,22 +13,22 @@ use sis_model::Hindrance;
 use sis_table::{Edit, EditsFault};
 
 // Marks the places that an edit maps. The first bit is for the place `low`.
-fn mark_edit(mapped: &mut Bitmap, edit: &Edit, low: u64)
-    requires { IsInside low (length mapped.old) edit.now }
-    ensures { mapped.new ≡ marked low edit.now mapped.old }
+fn mark_edit(bitmap: &mut Bitmap, edit: &Edit, low: u64)
+    requires { IsInside low (length bitmap.old) edit.now }
+    ensures { bitmap.new ≡ marked low edit.now bitmap.old }
 {
     if let Edit::Map { count, place, .. } = edit {
-        mapped.mark((*place - low) as usize, *count as usize);
+        bitmap.mark((*place - low) as usize, *count as usize);
     }
 }
 
 // Marks the places that edits map. The first bit is for the place `low`.
-fn mark_edits(mapped: &mut Bitmap, edits: &[Edit], low: u64)
-    requires { All (IsInside low (length mapped.old)) edits.now }
-    ensures { mapped.new ≡ marked_by low edits.now mapped.old }
+fn mark_edits(bitmap: &mut Bitmap, edits: &[Edit], low: u64)
+    requires { All (IsInside low (length bitmap.old)) edits.now }
+    ensures { bitmap.new ≡ marked_by low edits.now bitmap.old }
 {
     for edit in edits {
-        mark_edit(mapped, edit, low);
+        mark_edit(bitmap, edit, low);
     }
 }
 
@@ -38,6 +38,7 @@ impl<D: Disk> Volume<D> {
         requires { MayEditBy self.old.table txn.now.edits }
         ensures ok { OnOk result (self.new ≡ record self.old {
           table = edited_by self.old.table txn.now.edits;
+          held = marked_by (first_place self.old.table.layout) txn.now.edits self.old.held;
           is_changed = true;
         }) }
         ensures err { OnErr result (self.new ≡ self.old) }
@@ -50,11 +51,12 @@ impl<D: Disk> Volume<D> {
             (table_cap self.old.table.layout)) }
     {
         let edits = txn.edits();
-        let layout = self.table.layout();
+        let layout = self.kept.layout();
         let cap = layout.cap();
-        match self.table.apply_all(edits, cap) {
+        match self.kept.apply_all(edits, cap) {
             Ok(()) => {
                 mark_edits(&mut self.mapped, edits, layout.first_place());
+                mark_edits(&mut self.held, edits, layout.first_place());
                 self.is_changed = true;
                 Ok(())
             }

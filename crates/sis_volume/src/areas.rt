@@ -1,28 +1,15 @@
-//! The areas for a table: where they begin, what is written to them, and how it is made stable.
+//! The bytes of an area, and how they are made stable.
 ghost use Rattle.std.specs.Prelude.{◌≡◌, ◌⊎◌, ◌+◌, ◌≤◌, ◌++◌, length, vec_capacity, IfSome, OnOk, OnErr, IfErr, []};
 ghost use Rattle.std.specs.Option.{option_map};
 ghost use Rattle.sis_disk.specs.Record.{Rose, laid, live_of};
 ghost use Rattle.sis_disk.specs.Stops.{Elapses, Now};
-ghost use Rattle.sis_disk.specs.Layout.{IsLayout};
 ghost use Rattle.sis_table.specs.Spelling.{le8};
-ghost use Rattle.sis_table.specs.Image.{area_start, area_text};
+ghost use Rattle.sis_table.specs.Image.{area_text};
 ghost use Rattle.sis_volume.specs.Formatting.{EndsInSync};
 
 use byteorder::{ByteOrder, LittleEndian};
-use sis_disk::{Disk, Layout};
+use sis_disk::Disk;
 use sis_table::Table;
-
-/// Where an area begins.
-pub(crate) fn area_start(layout: &Layout, second: bool) -> u64
-    requires { IsLayout layout.now }
-    ensures { result ≡ area_start layout.now second }
-{
-    if second {
-        4096 * (2 + layout.area + layout.log)
-    } else {
-        8192
-    }
-}
 
 /// Adds bytes. There is room, so no memory is taken.
 pub(crate) fn put(out: &mut Vec<u8>, bytes: &[u8])
@@ -48,6 +35,7 @@ pub(crate) fn put_u64(out: &mut Vec<u8>, number: u64)
 }
 
 /// Adds an area's bytes: the table's length, and its spelling. There is room.
+#[tactic(auto, unfolding(sis_table::specs::Spelling::le8, sis_disk::specs::Areas::area_bytes))]
 pub(crate) fn put_area(table: &Table, out: &mut Vec<u8>)
     requires { length out.old.items + length (area_text table.now) ≤ vec_capacity out.old }
     ensures text { out.new.items ≡ out.old.items ++ area_text table.now }

@@ -1,30 +1,43 @@
-//! Which data blocks files map.
-ghost use Rattle.std.specs.Prelude.{◌≡◌, ◌+◌, ◌≤◌, ◌++◌, List, length, replicate, count_by, false, not, IfOk};
-ghost use Rattle.std.specs.List.{All};
+//! A bit for each data block.
+ghost use Rattle.std.specs.Prelude.{◌≡◌, ◌+◌, ◌<◌, ◌≤◌, ◌++◌, List, length, drop, replicate, count_by, false, min, not, IfOk};
+ghost use Rattle.std.specs.List.{All, prefix_len};
 ghost use Rattle.sis_table.specs.Volume.{IsTable, used_places};
 ghost use Rattle.sis_table.specs.declared.runs.Run.{Run as ARun};
 ghost use Rattle.sis_volume.specs.Applying.{set_bits};
-ghost use Rattle.sis_volume.specs.Places.{IsAmong, Marks};
+ghost use Rattle.sis_volume.specs.Places.{IsAmong, IsNext, Marks, free_in};
 
 use sis_table::{Run, Table};
 use std::alloc::{AllocError, Global};
 use std::marker::Model;
+
+/// Neighbouring places of a bitmap.
+#[derive(Clone, Copy)]
+pub(crate) struct Stretch {
+    /// The first one's index.
+    pub(crate) start: usize,
+    /// How many there are.
+    pub(crate) count: usize,
+}
 
 /// A bit for each of some places, and how many of them are set.
 #[derive(Drop)]
 pub(crate) struct Bitmap {
     bits: Vec<bool>,
     count: u64,
+    /// The bits before this one are set.
+    full: usize,
 }
 
 impl Model for Bitmap {
-    ghost use Rattle.std.specs.Prelude.{◌≡◌, Bool, List, count_by};
+    ghost use Rattle.std.specs.Prelude.{◌≡◌, ◌≤◌, Bool, List, count_by};
+    ghost use Rattle.std.specs.List.{prefix_len};
 
     ghost Value = { List Bool };
 
     ghost view = { λ b. b.bits.items };
 
-    ghost invariant = { λ b. b.count ≡ count_by (λ bit. bit) b.bits.items };
+    ghost invariant = { λ b. (b.count ≡ count_by (λ bit. bit) b.bits.items)
+        × (b.full ≤ prefix_len (λ bit. bit) b.bits.items) };
 }
 
 impl Bitmap {
@@ -35,6 +48,7 @@ impl Bitmap {
         Ok(Bitmap {
             bits: vec![in alloc; false; len]?,
             count: 0,
+            full: 0,
         })
     }
 
@@ -52,11 +66,25 @@ impl Bitmap {
         Ok(bitmap)
     }
 
-    /// The bits.
-    pub(crate) fn as_slice(&self) -> &[bool]
-        ensures { result.now ≡ self.now }
+    /// A bitmap with the same bits.
+    pub(crate) fn copy(&self, alloc: Global) -> Result<Bitmap, AllocError>
+        ensures { IfOk result (λ bitmap. bitmap ≡ self.now) }
     {
-        &self.bits
+        Ok(Bitmap {
+            bits: self.bits.to_vec(alloc)?,
+            count: self.count,
+            full: self.full,
+        })
+    }
+
+    /// Takes the bits of a bitmap of the same length.
+    pub(crate) fn copy_from(&mut self, other: &Bitmap)
+        requires { length self.old ≡ length other.now }
+        ensures { self.new ≡ other.now }
+    {
+        self.bits.copy_from_slice(&other.bits);
+        self.count = other.count;
+        self.full = other.full;
     }
 
     /// How many bits are set.
@@ -86,6 +114,23 @@ impl Bitmap {
             self.mark((run.place - low) as usize, run.count as usize);
         }
     }
+
+    /// The next bits that aren't set from `from` on, at most `most`.
+    ///
+    /// It begins to look behind the bits at the front that are known to be set, and keeps where it
+    /// found them to end.
+    pub(crate) fn next(&mut self, from: usize, most: usize) -> Stretch
+        requires free { 0 < free_in (drop from self.old) }
+        requires most { 1 ≤ most }
+        ensures next { IsNext self.old from most result }
+        ensures same { self.new ≡ self.old }
+    {
+        let stretch = next_unset(&self.bits, self.full, from, most);
+        if from <= self.full {
+            self.full = stretch.start;
+        }
+        stretch
+    }
 }
 
 // How many of the bits aren't set.
@@ -101,4 +146,59 @@ fn set(bits: &mut Vec<bool>, start: usize, count: usize)
     ensures { bits.new.items ≡ set_bits start count bits.old.items }
 {
     bits[start..start + count].fill(true);
+}
+
+// How many bits at the front are set.
+fn count_set(bits: &[bool]) -> usize
+    ensures { result ≡ prefix_len (λ bit. bit) bits.now }
+{
+    bits.iter().take_while(|bit| **bit).count()
+}
+
+// How many bits from `from` on are set, up to the first that isn't.
+fn leading_set(bits: &[bool], from: usize) -> usize
+    requires { from ≤ length bits.now }
+    ensures { result ≡ prefix_len (λ bit. bit) (drop from bits.now) }
+{
+    count_set(&bits[from..])
+}
+
+// How many bits at the front aren't set.
+fn count_unset(bits: &[bool]) -> usize
+    ensures { result ≡ prefix_len not bits.now }
+{
+    bits.iter().take_while(|bit| !**bit).count()
+}
+
+// The first bit from `from` on that isn't set.
+#[tactic(auto, using(crate::proofs::Bitmaps::start_within))]
+fn first_unset(bits: &[bool], from: usize) -> usize
+    requires { 0 < free_in (drop from bits.now) }
+    ensures value { result ≡ from + prefix_len (λ bit. bit) (drop from bits.now) }
+    ensures within { result < length bits.now }
+{
+    from + leading_set(bits, from)
+}
+
+// How many of the next `most` bits from `start` on aren't set, up to the first that is.
+#[tactic(auto, using(crate::proofs::Bitmaps::leading_few))]
+fn unset_from(bits: &[bool], start: usize, most: usize) -> usize
+    requires { start ≤ length bits.now }
+    ensures { result ≡ min (prefix_len not (drop start bits.now)) most }
+{
+    let behind = &bits[start..];
+    count_unset(&behind[..behind.len().min(most)])
+}
+
+// The next bits that aren't set from `from` on, at most `most`. The bits before `full` are set.
+fn next_unset(bits: &[bool], full: usize, from: usize, most: usize) -> Stretch
+    requires full { full ≤ prefix_len (λ bit. bit) bits.now }
+    requires free { 0 < free_in (drop from bits.now) }
+    requires most { 1 ≤ most }
+    ensures next { IsNext bits.now from most result }
+    ensures full { from ≤ full → result.start ≤ prefix_len (λ bit. bit) bits.now }
+{
+    let start = first_unset(bits, from.max(full));
+    let count = unset_from(bits, start, most);
+    Stretch { start, count }
 }

@@ -1,31 +1,5 @@
-//! Why a disk was not opened, or not formatted.
-use sis_disk::{GoodKind, ImageKind};
+//! Why a disk was not formatted, and a refusal that hands the disk back.
 use std::alloc::AllocError;
-
-/// Why a disk was not opened as a volume.
-#[derive(Clone, Copy, Debug, PartialEq, Eq)]
-pub enum OpenFault {
-    /// The disk failed.
-    Disk,
-    /// The disk's bytes are no image.
-    Image {
-        /// The offset of the first field whose rule fails.
-        at: u64,
-        /// The rule.
-        kind: ImageKind,
-    },
-    /// The files of the image's table don't go together.
-    Bad {
-        /// The rule.
-        kind: GoodKind,
-        /// The id of the first file at which it fails.
-        file: u64,
-        /// The index of its link, 0 for a plain file.
-        index: u64,
-    },
-    /// There was no memory.
-    Memory,
-}
 
 /// Why a disk was not formatted.
 #[derive(Clone, Copy, Debug, PartialEq, Eq)]

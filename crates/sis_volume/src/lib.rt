@@ -1,4 +1,4 @@
-//! A volume over a disk: transactions over its table, free places for new blocks, and commits.
+//! A volume over a disk: transactions over its table, spare places for new blocks, and commits.
 #![tactic(auto)]
 
 mod applying;
@@ -7,18 +7,18 @@ mod bitmap;
 mod committing;
 mod fault;
 mod formatting;
+mod kept_table;
 mod laws;
 mod opening;
-mod places;
 mod room;
 mod staging;
-mod superblock;
 #[cfg(test)]
 mod tests;
 mod txn;
 mod volume;
 
-pub use fault::{FormatFault, OpenFault, Refused};
+pub use fault::{FormatFault, Refused};
 pub use laws::held_is_read;
+pub use sis_journal::OpenFault;
 pub use txn::Txn;
 pub use volume::Volume;

@@ -1,8 +1,13 @@
 //! How much room a volume has.
-ghost use Rattle.std.specs.Prelude.{◌≡◌, ◌+◌, ◌<◌, ◌≤◌, length, Err, None, IfSome, IsOk, OnOk};
+ghost use Rattle.std.specs.Prelude.{◌≡◌, ◌⊎◌, ◌+◌, ◌<◌, ◌≤◌, length, Err, None, IfErr, IfSome, OnOk, OnErr};
 ghost use Rattle.sis_disk.specs.Layout.{data_blocks};
+ghost use Rattle.sis_disk.specs.Record.{Rose};
+ghost use Rattle.sis_disk.specs.Stops.{Elapses};
+ghost use Rattle.sis_table.specs.Content.{files_in};
 ghost use Rattle.sis_table.specs.Volume.{used};
 ghost use Rattle.sis_table.specs.Spelling.{spelling};
+ghost use Rattle.sis_volume.specs.Room.{HindersRoom};
+ghost use Rattle.sis_volume.specs.Stopping.{IsCommitted, MayCommit};
 ghost use Rattle.sis_volume.specs.View.{spare};
 
 use crate::Volume;
@@ -21,21 +26,44 @@ impl<D: Disk> Volume<D> {
     pub fn table_len(&self) -> u64
         ensures { result ≡ length (spelling self.now.table) }
     {
-        self.table.encoded_len()
+        self.kept.table.encoded_len()
     }
 
-    /// Whether so many blocks can be staged. Makes no call of the disk, and takes no memory.
-    #[tactic(auto, using(crate::proofs::Spares::used_and_spare))]
+    // How many data blocks neither table maps.
+    fn spare(&self) -> u64
+        ensures { result ≡ spare self.now }
+    {
+        self.total() - self.held.count()
+    }
+
+    /// Makes sure that so many blocks can be staged. Takes no memory.
+    ///
+    /// Where too few places are free in both tables it commits, which frees those that the committed
+    /// table alone maps.
+    #[tactic(auto, using(crate::proofs::Spares::used_within))]
     pub fn room(&mut self, needed: u64) -> Result<(), Hindrance>
-        ensures same { self.new ≡ self.old }
-        ensures down { IfSome self.old.down (λ at. result ≡ Err (Hindrance.Down at)) }
+        ensures spare { OnOk result (needed ≤ spare self.new) }
+        // Either nothing changed, or the table was committed.
+        ensures ok { OnOk result ((self.new ≡ self.old) ⊎ IsCommitted self.old self.new) }
+        ensures table { self.new.table ≡ self.old.table }
+
+        // It is hindered by want of room, and exactly then so; or by a commit that failed.
+        ensures down { IfSome self.old.down (λ at.
+            (result ≡ Err (Hindrance.Down at)) × (self.new ≡ self.old)) }
         ensures full { self.old.down ≡ None
             → data_blocks self.old.table.layout < used self.old.table + needed
-            → result ≡ Err (Hindrance.Full needed (used self.old.table)
-            (data_blocks self.old.table.layout)) }
-        ensures ok { self.old.down ≡ None
-            → used self.old.table + needed ≤ data_blocks self.old.table.layout → IsOk result }
-        ensures spare { OnOk result (needed ≤ spare self.new.table) }
+            → (result ≡ Err (Hindrance.Full needed (used self.old.table)
+            (data_blocks self.old.table.layout))) × (self.new ≡ self.old) }
+        ensures cause { self.old.down ≡ None
+            → IfErr result (HindersRoom needed self.old self.new) }
+
+        // At every moment a stop leaves what it left before, or the files of now.
+        ensures images { self.old.down ≡ None
+            → MayCommit self.old.table self.old.seen self.new.seen }
+        ensures files { files_in self.new.table self.new.seen
+            ≡ files_in self.old.table self.old.seen }
+        ensures elapses { Elapses self.old.seen self.new.seen }
+        ensures calls { self.new.seen.calls ≤ self.old.seen.calls + 4 }
     {
         if let Some(at) = self.down {
             return Err(Hindrance::Down { at });
@@ -48,6 +76,9 @@ impl<D: Disk> Volume<D> {
                 used,
                 total,
             });
+        }
+        if self.spare() < needed {
+            self.commit()?;
         }
         Ok(())
     }

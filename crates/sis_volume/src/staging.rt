@@ -1,32 +1,35 @@
-//! Writes new blocks to free places. What is mapped stays as it is.
+//! Writes new blocks to spare places. What the current and the committed table map stays as it is.
 ghost use Rattle.std.specs.Prelude.{◌≡◌, ◌+◌, ◌*◌, ◌/◌, ◌%◌, ◌^◌, ◌<◌, ◌≤◌, None, ◌++◌, List, length, IfOk, OnOk, OnErr, IfErr};
+ghost use Rattle.sis_disk.specs.Layout.{IsLayout, data_blocks};
 ghost use Rattle.sis_disk.specs.Record.{live_of};
 ghost use Rattle.sis_disk.specs.Stops.{Elapses};
 ghost use Rattle.sis_table.specs.Runs.{place_end};
-ghost use Rattle.sis_table.specs.Volume.{used_places};
 ghost use Rattle.sis_table.specs.Content.{files_in};
 ghost use Rattle.sis_table.specs.declared.runs.Run.{Run as ARun};
 ghost use Rattle.sis_table.specs.declared.edit.Edit.{Edit as AnEdit};
-ghost use Rattle.sis_volume.specs.View.{spare_from};
+ghost use Rattle.sis_volume.specs.View.{spare_from, spare_in};
 ghost use Rattle.sis_volume.specs.Staging.{Stages, HindersStaging};
-ghost use Rattle.sis_volume.specs.Keeping.{Both, KeepsFiles, IsNextRun, StagesRun};
+ghost use Rattle.sis_volume.specs.Stopping.{OnlyOpens};
+ghost use Rattle.sis_volume.specs.Keeping.{IsNextRun, StagesRun, StagesRuns, WritesSpare};
 
-use crate::places::next_stretch;
+use crate::bitmap::Bitmap;
 use crate::{Txn, Volume};
-use sis_disk::Disk;
+use sis_disk::{Disk, Layout};
 use sis_model::Hindrance;
-use sis_table::{Run, Table};
+use sis_table::Run;
 
-// The next free places, for blocks from `first` on.
-fn next_run(table: &Table, mapped: &[bool], from: u64, first: u64, most: u64) -> Run
-    requires mapped { mapped.now ≡ used_places table.now }
-    requires free { 0 < spare_from table.now from }
+// The next spare places, for blocks from `first` on.
+fn next_run(layout: &Layout, held: &mut Bitmap, from: u64, first: u64, most: u64) -> Run
+    requires layout { IsLayout layout.now }
+    requires held { length held.old ≡ data_blocks layout.now }
+    requires spare { 0 < spare_in layout.now held.old from }
     requires most { 1 ≤ most }
-    ensures next { IsNextRun table.now from first most result }
+    ensures next { IsNextRun layout.now held.old from first most result }
+    ensures held { held.new ≡ held.old }
     ensures small { place_end result ≤ 1048576 }
 {
-    let low = table.layout().first_place();
-    let stretch = next_stretch(mapped, from.saturating_sub(low) as usize, most as usize);
+    let low = layout.first_place();
+    let stretch = held.next(from.saturating_sub(low) as usize, most as usize);
     Run {
         first,
         count: stretch.count as u64,
@@ -34,32 +37,32 @@ fn next_run(table: &Table, mapped: &[bool], from: u64, first: u64, most: u64) ->
     }
 }
 
-// Writes the first of these blocks to the next free places, in one call, and maps them.
-#[tactic(auto, using(crate::proofs::Keeps::next_keeps))]
+// Writes the first of these blocks to the next spare places, in one call, and maps them.
 fn stage_run<D: Disk>(
     disk: &mut D,
-    table: &Table,
-    mapped: &[bool],
+    layout: &Layout,
+    held: &mut Bitmap,
     txn: &mut Txn,
     file: u64,
     first: u64,
     bytes: &[u8],
 ) -> Result<Run, Hindrance>
-    requires mapped { mapped.now ≡ used_places table.now }
-    requires size { (D.seen disk.old).size ≡ 4096 * table.now.layout.total }
+    requires layout { IsLayout layout.now }
+    requires held { length held.old ≡ data_blocks layout.now }
+    requires size { (D.seen disk.old).size ≡ 4096 * layout.now.total }
     requires some { 4096 ≤ length bytes.now }
-    requires room { length bytes.now / 4096 ≤ spare_from table.now txn.old.from }
-    ensures ok { IfOk result (λ run.
-        StagesRun table.now txn.old txn.new file first bytes.now (live_of (D.seen disk.new)) run) }
+    requires room { length bytes.now / 4096 ≤ spare_in layout.now held.old txn.old.from }
+    ensures ok { IfOk result (λ run. StagesRun layout.now held.old txn.old txn.new file first
+        bytes.now (live_of (D.seen disk.new)) run) }
     ensures err { OnErr result (txn.new ≡ txn.old) }
+    ensures held { held.new ≡ held.old }
     ensures cause { IfErr result (HindersStaging (D.seen disk.old) (D.seen disk.new)) }
-    ensures keeps { Both (KeepsFiles table.now txn.old.from)
-        (live_of (D.seen disk.old)) (live_of (D.seen disk.new)) }
-    ensures elapses { Elapses (D.seen disk.old) (D.seen disk.new) }
+    ensures writes { WritesSpare layout.now held.old txn.old.from
+        (D.seen disk.old) (D.seen disk.new) }
     ensures calls { (D.seen disk.new).calls ≤ (D.seen disk.old).calls + 1 }
 {
     let most = bytes.len() as u64 / 4096;
-    let run = next_run(table, mapped, txn.from(), first, most);
+    let run = next_run(layout, held, txn.from(), first, most);
     let len = 4096 * run.count as usize;
     if disk.write(4096 * run.place, &bytes[..len]).is_err() {
         return Err(Hindrance::Disk);
@@ -73,44 +76,47 @@ fn stage_run<D: Disk>(
 // Writes all blocks, run by run.
 fn stage_runs<D: Disk>(
     disk: &mut D,
-    table: &Table,
-    mapped: &[bool],
+    layout: &Layout,
+    held: &mut Bitmap,
     txn: &mut Txn,
     file: u64,
     first: u64,
     bytes: &[u8],
 ) -> Result<(), Hindrance>
-    requires mapped { mapped.now ≡ used_places table.now }
-    requires size { (D.seen disk.old).size ≡ 4096 * table.now.layout.total }
+    requires layout { IsLayout layout.now }
+    requires held { length held.old ≡ data_blocks layout.now }
+    requires size { (D.seen disk.old).size ≡ 4096 * layout.now.total }
     requires whole { length bytes.now % 4096 ≡ 0 }
-    requires room { length bytes.now / 4096 ≤ spare_from table.now txn.old.from }
+    requires room { length bytes.now / 4096 ≤ spare_in layout.now held.old txn.old.from }
     requires blocks { first + length bytes.now / 4096 ≤ 2 ^ 24 }
-    ensures ok { OnOk result ((runs : List ARun) × Stages table.now txn.old txn.new file first
-        (length bytes.now / 4096) bytes.now (live_of (D.seen disk.new)) runs) }
-    ensures spare { OnOk result (spare_from table.now txn.new.from + length bytes.now / 4096
-        ≡ spare_from table.now txn.old.from) }
+    ensures ok { OnOk result ((runs : List ARun) × StagesRuns layout.now held.old txn.old txn.new
+        file first (length bytes.now / 4096) bytes.now (live_of (D.seen disk.new)) runs) }
+    ensures spare { OnOk result (spare_in layout.now held.old txn.new.from + length bytes.now / 4096
+        ≡ spare_in layout.now held.old txn.old.from) }
     ensures err { OnErr result ((more : List AnEdit) × (txn.new.edits ≡ txn.old.edits ++ more)) }
+    ensures held { held.new ≡ held.old }
     ensures cause { IfErr result (HindersStaging (D.seen disk.old) (D.seen disk.new)) }
-    ensures keeps { Both (KeepsFiles table.now txn.old.from)
-        (live_of (D.seen disk.old)) (live_of (D.seen disk.new)) }
-    ensures elapses { Elapses (D.seen disk.old) (D.seen disk.new) }
+    ensures writes { WritesSpare layout.now held.old txn.old.from
+        (D.seen disk.old) (D.seen disk.new) }
     ensures calls { (D.seen disk.new).calls ≤ (D.seen disk.old).calls + length bytes.now / 4096 }
 {
     let blocks = bytes.len() / 4096;
     let mut done = 0;
     while done < blocks {
         let rest = &bytes[4096 * done..];
-        let run = stage_run(disk, table, mapped, txn, file, first + done as u64, rest)?;
+        let run = stage_run(disk, layout, held, txn, file, first + done as u64, rest)?;
         done += run.count as usize;
     }
     Ok(())
 }
 
 impl<D: Disk> Volume<D> {
-    /// Writes whole blocks of a file, from block `first` on, to free places that the transaction
-    /// was not given yet, and adds the edits that map them.
+    /// Writes whole blocks of a file, from block `first` on, to places that neither the current nor
+    /// the committed table maps and the transaction was not given yet, and adds the edits that map
+    /// them.
     ///
-    /// What files map stays as it is, also where a write fails.
+    /// Neighbouring places are written in one call of the disk. What either table maps stays as it
+    /// is, also where a write fails.
     pub fn stage(
         &mut self,
         txn: &mut Txn,
@@ -119,21 +125,23 @@ impl<D: Disk> Volume<D> {
         bytes: &[u8],
     ) -> Result<(), Hindrance>
         requires whole { length bytes.now % 4096 ≡ 0 }
-        requires room { length bytes.now / 4096 ≤ spare_from self.old.table txn.old.from }
+        requires room { length bytes.now / 4096 ≤ spare_from self.old txn.old.from }
         requires up { self.old.down ≡ None }
         requires blocks { first + length bytes.now / 4096 ≤ 2 ^ 24 }
         ensures ok { OnOk result ((runs : List ARun)
-            × Stages self.old.table txn.old txn.new file first (length bytes.now / 4096)
+            × Stages self.old txn.old txn.new file first (length bytes.now / 4096)
             bytes.now (live_of self.new.seen) runs) }
-        ensures spare { OnOk result (spare_from self.old.table txn.new.from
-            + length bytes.now / 4096 ≡ spare_from self.old.table txn.old.from) }
+        ensures spare { OnOk result (spare_from self.new txn.new.from
+            + length bytes.now / 4096 ≡ spare_from self.old txn.old.from) }
 
         // An error adds no edit. It comes from memory, or from a fault of the disk.
         ensures err { OnErr result (txn.new ≡ txn.old) }
         ensures cause { IfErr result (HindersStaging self.old.seen self.new.seen) }
 
-        // Nothing else changes, and each call of the disk writes a block at least.
+        // Nothing else changes, at no moment does a stop leave other files than before, and each
+        // call of the disk writes a block at least.
         ensures same { self.new ≡ record self.old { seen = self.new.seen } }
+        ensures images { OnlyOpens self.old.seen self.new.seen }
         ensures files { files_in self.new.table self.new.seen
             ≡ files_in self.old.table self.old.seen }
         ensures elapses { Elapses self.old.seen self.new.seen }
@@ -142,10 +150,11 @@ impl<D: Disk> Volume<D> {
     {
         let count = txn.edits().len();
         let from = txn.from();
+        let layout = self.layout();
         let staged = stage_runs(
             &mut self.disk,
-            &self.table,
-            self.mapped.as_slice(),
+            &layout,
+            &mut self.held,
             txn,
             file,
             first,

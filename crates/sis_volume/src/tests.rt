@@ -17,7 +17,10 @@ const SUPERBLOCK: &[u8] =
     b"SISIMAGE\x01\0\0\0C\0\0\0\x10\0\0\0\0\0\0\0\x02\0\0\0\0\0\0\0\0\0\0\0\0\0\0\0\0";
 
 /// The length 20, next id 1, greatest index 0, and no files.
-const AREA: &[u8] = b"\x14\0\0\0\0\0\0\0\x01\0\0\0\0\0\0\0\0\0\0\0\0\0\0\0\0\0\0\0\0";
+const AREA: &[u8] = b"\x14\0\0\0\0\0\0\0\x01\0\0\0\0\0\0\0\0\0\0\0\0\0\0\0\0\0\0\0";
+
+/// A selector that names area B.
+const AREA_B: &[u8] = b"\x01\0";
 
 /// A disk of so many bytes of 7.
 fn disk_of(alloc: Global, len: usize) -> Result<Memory, AllocError> {
@@ -50,7 +53,7 @@ fn a_formatted_disk_opens_without_files(rt: HostRuntime) -> Result<(), Fail> {
     let mut disk = disk_of(alloc, 65_536)?;
     assert_eq!(rt; Volume::format(alloc, &mut disk, LAYOUT), Ok(()));
     assert_eq!(rt; disk.bytes().get(..41), Some(SUPERBLOCK));
-    assert_eq!(rt; disk.bytes().get(8192..8221), Some(AREA));
+    assert_eq!(rt; disk.bytes().get(8192..8220), Some(AREA));
     let Ok(volume) = Volume::open(alloc, disk) else {
         return Err(Fail::from("it didn't open"));
     };
@@ -65,7 +68,7 @@ fn a_formatted_disk_opens_without_files(rt: HostRuntime) -> Result<(), Fail> {
     );
     assert_eq!(rt;
         (volume.calls(), volume.faults(), volume.down()),
-        (5, 0, None)
+        (6, 0, None)
     );
     let name = Name::from_units(alloc, &[0x61])?;
     assert_eq!(rt; (volume.find(&name), volume.next_file(None)), (None, None));
@@ -74,7 +77,7 @@ fn a_formatted_disk_opens_without_files(rt: HostRuntime) -> Result<(), Fail> {
 }
 
 #[test]
-fn a_block_is_staged_and_an_empty_transaction_kept(rt: HostRuntime) -> Result<(), Fail> {
+fn a_block_is_staged_and_an_empty_transaction_committed(rt: HostRuntime) -> Result<(), Fail> {
     let alloc = rt.alloc();
     let mut disk = disk_of(alloc, 65_536)?;
     assert_eq!(rt; Volume::format(alloc, &mut disk, LAYOUT), Ok(()));
@@ -94,6 +97,8 @@ fn a_block_is_staged_and_an_empty_transaction_kept(rt: HostRuntime) -> Result<()
         disk.bytes().get(24_575..24_578),
         Some([7, 9, 9].as_slice())
     );
-    assert_eq!(rt; disk.bytes().get(8192..8221), Some(AREA));
+    assert_eq!(rt; disk.bytes().get(8192..8220), Some(AREA));
+    assert_eq!(rt; disk.bytes().get(16_384..16_412), Some(AREA));
+    assert_eq!(rt; disk.bytes().get(4096..4098), Some(AREA_B));
     Ok(())
 }

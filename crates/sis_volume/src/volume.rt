@@ -1,5 +1,5 @@
 //! A disk with its table, and which of its data blocks are mapped.
-ghost use Rattle.std.specs.Prelude.{◌≡◌, ◌*◌, length, false, IfSome};
+ghost use Rattle.std.specs.Prelude.{◌≡◌, ◌*◌, length, false, None, IfSome};
 ghost use Rattle.std.specs.Option.{option_copied, option_map};
 ghost use Rattle.sis_disk.specs.Layout.{IsLayout, data_blocks, table_cap};
 ghost use Rattle.sis_table.specs.Volume.{IsNextFile, IsTable, node_named, node_with, id_of};
@@ -7,22 +7,24 @@ ghost use Rattle.sis_table.specs.Image.{Holds};
 ghost use Rattle.sis_disk.specs.Record.{live_of};
 
 use crate::bitmap::Bitmap;
+use crate::kept_table::KeptTable;
 use sis_disk::{Disk, Layout};
+use sis_journal::Journal;
 use sis_name::Name;
-use sis_table::{Node, Table};
+use sis_table::Node;
 use std::marker::Model;
 
 /// A disk with its table, and which of its data blocks are mapped.
 #[derive(Drop)]
 pub struct Volume<D: Disk> {
     pub(crate) disk: D,
-    pub(crate) table: Table,
-    /// Area B is selected.
-    pub(crate) second: bool,
-    /// For each data block, whether a file maps it.
+    pub(crate) journal: Journal,
+    /// The current table.
+    pub(crate) kept: KeptTable,
+    /// For each data block, whether the current table maps it.
     pub(crate) mapped: Bitmap,
-    /// Room for the bytes of an area, so that a commit takes no memory.
-    pub(crate) buffer: Vec<u8>,
+    /// For each data block, whether the current table or the committed one maps it.
+    pub(crate) held: Bitmap,
     /// The table was edited since the last commit.
     pub(crate) is_changed: bool,
     /// The call by which a commit failed.
@@ -30,7 +32,6 @@ pub struct Volume<D: Disk> {
 }
 
 impl<D: Disk> Model for Volume<D> {
-    ghost use Rattle.std.specs.Prelude.{vec_capacity};
     ghost use Rattle.sis_volume.specs.View.{VolumeView};
     ghost use Rattle.sis_volume.specs.Kept.{IsKept};
 
@@ -38,20 +39,21 @@ impl<D: Disk> Model for Volume<D> {
 
     ghost view = { λ v. record {
       seen = D.seen v.disk;
-      table = v.table;
+      table = v.kept;
+      held = v.held;
       is_changed = v.is_changed;
       down = v.down;
     } };
 
-    ghost invariant = { λ v. IsKept v.table v.second v.mapped (vec_capacity v.buffer)
-        v.is_changed (D.seen v.disk) };
+    ghost invariant = { λ v. IsKept v.kept v.journal v.mapped v.held
+        v.is_changed v.down (D.seen v.disk) };
 }
 
 impl<D: Disk> Volume<D> {
     /// The disk. Takes no memory.
     pub fn into_disk(self) -> D
         ensures seen { D.seen result ≡ self.seen }
-        ensures holds { self.is_changed ≡ false
+        ensures holds { self.is_changed ≡ false → self.down ≡ None
             → IfSome (live_of self.seen) (λ live. Holds live self.table) }
     {
         self.disk
@@ -59,7 +61,9 @@ impl<D: Disk> Volume<D> {
 
     /// How many calls the disk has made.
     pub fn calls(&self) -> u64
-        ensures { result ≡ self.now.seen.calls }
+        ensures calls { result ≡ self.now.seen.calls }
+        ensures counted { IfSome self.now.seen.told
+            (λ r. length r.calls ≡ self.now.seen.calls) }
     {
         self.disk.calls()
     }
@@ -77,8 +81,7 @@ impl<D: Disk> Volume<D> {
         ensures table { IsTable self.now.table }
         ensures size { self.now.seen.size ≡ 4096 * result.total }
     {
-        let Volume { table, .. } = self;
-        table.layout()
+        self.kept.layout()
     }
 
     /// The id that the next file gets.
@@ -86,14 +89,14 @@ impl<D: Disk> Volume<D> {
         ensures id { result ≡ self.now.table.next_id }
         ensures table { IsTable self.now.table }
     {
-        self.table.next_id()
+        self.kept.table.next_id()
     }
 
     /// How many files there are.
     pub fn files(&self) -> u64
         ensures { result ≡ length self.now.table.nodes }
     {
-        self.table.files()
+        self.kept.table.files()
     }
 
     /// The file with the least name that is greater than this one, and with the least name of all
@@ -101,7 +104,7 @@ impl<D: Disk> Volume<D> {
     pub fn next_file(&self, after: Option<&Name>) -> Option<u64>
         ensures { IsNextFile self.now.table (option_copied after.entry) result }
     {
-        self.table.next_file(after)
+        self.kept.table.next_file(after)
     }
 
     /// The file with this id.
@@ -109,14 +112,14 @@ impl<D: Disk> Volume<D> {
         ensures node { option_copied result ≡ node_with self.now.table id }
         ensures table { IsTable self.now.table }
     {
-        self.table.node(id)
+        self.kept.table.node(id)
     }
 
     /// The file of this name.
     pub fn find(&self, name: &Name) -> Option<u64>
         ensures { result ≡ option_map id_of (node_named self.now.table name.now) }
     {
-        self.table.find(name)
+        self.kept.table.find(name)
     }
 
     /// The number of data blocks.

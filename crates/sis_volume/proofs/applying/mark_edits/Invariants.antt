@@ -2,4 +2,4 @@ use Rattle.sis_volume.proofs.Edited.{IsMarking}
 use Rattle.sis_volume.proofs.applying.mark_edits.Given as goal
 
 abbrev pub invariant-loop-edit : goal.invariant-loop-edit
-invariant-loop-edit l = IsMarking l.low l.fn.mapped l.mapped l.edits l.edit-index
+invariant-loop-edit l = IsMarking l.low l.fn.bitmap l.bitmap l.edits l.edit-index

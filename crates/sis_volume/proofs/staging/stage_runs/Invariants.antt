@@ -1,9 +1,9 @@
-use Rattle.std.proofs.Common.{◌-◌}
+use Rattle.std.proofs.Common.{◌≡◌, ◌-◌}
 use Rattle.sis_volume.proofs.Staged.{IsStaged}
 use Rattle.sis_volume.proofs.staging.stage_runs.Given as goal
 
 abbrev pub invariant-loop-done : goal.invariant-loop-done
-invariant-loop-done g l = IsStaged l.table l.fn.txn l.txn l.file l.first l.done l.bytes (g.D.Disk.seen l.fn.disk) (g.D.Disk.seen l.disk)
+invariant-loop-done g l = IsStaged l.layout l.fn.held l.fn.txn l.txn l.file l.first l.done l.bytes (g.D.Disk.seen l.fn.disk) (g.D.Disk.seen l.disk) × (l.held ≡ l.fn.held)
 
 abbrev pub decreases-loop-done : goal.decreases-loop-done
 decreases-loop-done g l = l.blocks - l.done

@@ -7,28 +7,37 @@ use Rattle.sis_table.specs.Spelling.{spelling}
 use Rattle.sis_table.specs.Volume.{VolumeTable, IsTable, used_places}
 use Rattle.sis_table.specs.declared.edit.Edit.{Edit}
 use Rattle.sis_table.proofs.EditLemmas.{IsTable-edited_by}
-use Rattle.sis_table.proofs.PutLemmas.{edited_by-layout}
+use Rattle.sis_table.proofs.PutLemmas.{edited_by-layout, length-used_places}
 use Rattle.sis_volume.specs.Applying.{IsInside, marked_by}
 use Rattle.sis_volume.specs.View.{VolumeView}
-use Rattle.sis_volume.proofs.Commits.{kept-applied}
+use Rattle.sis_volume.specs.Kept.{IsKept}
+use Rattle.sis_volume.proofs.Applied.{kept-applied}
 use Rattle.sis_volume.proofs.Edited.{all_inside, marked_by_is}
 use Rattle.sis_volume.proofs.volume.Volume.apply.Goals as goal
 
 pub mark_edits-requires : goal.mark_edits-requires
 mark_edits-requires g c =
     let low = c.first_place.ensures ∙ ap first_place c.layout-layout.ensures.layout in
-    let may : MayEditBy c.self.inside.table c.args.txn.now.edits = subst (λ (v : VolumeView). MayEditBy v.table c.args.txn.now.edits) (sym c.self.view_is) c.requires in
+    let may : MayEditBy c.self.inside.kept c.args.txn.now.edits = subst (λ (v : VolumeView). MayEditBy v.table c.args.txn.now.edits) (sym c.self.view_is) c.requires in
     subst (λ (es : List Edit). All (IsInside c.first_place.result (length c.self.inside.mapped)) es) (sym c.edits-edits.ensures)
-    (all_inside c.self.inside.table c.args.txn.now.edits c.first_place.result c.self.inside.mapped low c.self.invariant.used may)
+    (all_inside c.self.inside.kept c.args.txn.now.edits c.first_place.result c.self.inside.mapped low (ap length c.self.invariant.used ∙ length-used_places c.self.inside.kept) may)
+
+pub mark_edits-requires-in-Ok : goal.mark_edits-requires-in-Ok
+mark_edits-requires-in-Ok g c =
+    let low = c.first_place-in-Ok.ensures ∙ ap first_place c.layout-layout.ensures.layout in
+    let may : MayEditBy c.self.inside.kept c.args.txn.now.edits = subst (λ (v : VolumeView). MayEditBy v.table c.args.txn.now.edits) (sym c.self.view_is) c.requires in
+    subst (λ (es : List Edit). All (IsInside c.first_place-in-Ok.result (length c.self.inside.held)) es) (sym c.edits-edits.ensures)
+    (all_inside c.self.inside.kept c.args.txn.now.edits c.first_place-in-Ok.result c.self.inside.held low c.self.invariant.bits may)
 
 not_above : (most len : ℕ) → (most < len → false ≡ true) → len ≤ most
 not_above most len none = elim (cases_lt most len) [ inl lt ↦ (let never = none lt in absurd cc) | inr le ↦ le ]
 
 pub invariant_of-self : goal.invariant_of-self
 invariant_of-self g c =
-    let v = c.self.inside.table in
+    let v = c.self.inside.kept in
     let edits = c.args.txn.now.edits in
     let low = c.first_place.ensures ∙ ap first_place c.layout-layout.ensures.layout in
+    let low_too = c.first_place-in-Ok.ensures ∙ ap first_place c.layout-layout.ensures.layout in
     let may : MayEditBy v edits = subst (λ (w : VolumeView). MayEditBy w.table edits) (sym c.self.view_is) c.requires in
     let is : c.apply_all.new.self ≡ edited_by v edits = c.in-Ok.ensures.ok ∙ ap (λ (es : List Edit). edited_by v es) c.edits-edits.ensures in
     let same : c.apply_all.new.self.layout ≡ v.layout = ap (λ (w : VolumeTable). w.layout) is ∙ edited_by-layout v edits in
@@ -37,5 +46,7 @@ invariant_of-self g c =
     let cap : c.cap-cap.result ≡ table_cap c.apply_all.new.self.layout = c.cap-cap.ensures ∙ ap table_cap (c.layout-layout.ensures.layout ∙ sym same) in
     let bits = c.mark_edits.ensures ∙ ap₂ (λ (es : List Edit) (bs : List Bool). marked_by c.first_place.result es bs) c.edits-edits.ensures c.self.invariant.used
     ∙ marked_by_is v edits c.first_place.result low may ∙ ap used_places (sym is) in
-    kept-applied v c.apply_all.new.self c.self.inside.second c.self.inside.mapped _ _ c.self.inside.is_changed (g.D.Disk.seen c.self.inside.disk)
-    c.self.invariant (subst (λ (w : VolumeTable). IsTable w) (sym is) (IsTable-edited_by v edits c.self.invariant.table may)) same (omega arith) bits
+    let now : c.mark_edits-in-Ok.new.bitmap ≡ marked_by c.first_place-in-Ok.result edits c.self.inside.held = c.mark_edits-in-Ok.ensures ∙ ap (λ (es : List Edit). marked_by c.first_place-in-Ok.result es c.self.inside.held) c.edits-edits.ensures in
+    subst (λ (bs : List Bool). IsKept c.apply_all.new.self c.self.inside.journal c.mark_edits.new.bitmap bs true c.self.inside.down (g.D.Disk.seen c.self.inside.disk)) (sym now)
+    (kept-applied v edits c.self.inside.held c.first_place-in-Ok.result low_too c.self.invariant.bits may c.apply_all.new.self c.self.inside.journal c.self.inside.mapped c.mark_edits.new.bitmap
+    c.self.inside.is_changed c.self.inside.down (g.D.Disk.seen c.self.inside.disk) is (subst (λ (w : VolumeTable). IsTable w) (sym is) (IsTable-edited_by v edits c.self.invariant.table may)) (omega arith) bits c.self.invariant)

@@ -1,65 +1,71 @@
-use Rattle.std.proofs.Common.{◌≡◌, length, ap, ◌∙◌, arith, vec_capacity, false}
+use Rattle.std.proofs.Common.{◌≡◌, Bool, false, not, List, length, sym, ap, ◌∙◌, subst}
 use Rattle.sis_disk.specs.Record.{live_of}
-use Rattle.sis_disk.specs.declared.layout.Layout.{Layout}
-use Rattle.sis_table.specs.Image.{area_start, area_text}
-use Rattle.sis_volume.proofs.Commits.{area_fits, area_inside, commit-keeps, commit-holds, kept-committed, files-committed}
+use Rattle.sis_table.specs.Volume.{used_places}
+use Rattle.sis_table.proofs.PutLemmas.{length-used_places}
+use Rattle.sis_volume.specs.Stopping.{IsCommitted, MayCommit}
+use Rattle.sis_volume.specs.View.{VolumeView}
+use Rattle.sis_volume.proofs.Committed.{files-rest, is_committed, kept-committed, live-committed, may_commit, none_told, opens-committed, unchanged_committed}
 use Rattle.sis_volume.proofs.volume.Volume.commit.Goals as goal
 
-pub spell_area-requires : goal.spell_area-requires
-spell_area-requires g c =
-    let fits = area_fits c.self.inside.table c.self.invariant.fits c.self.invariant.table.layout in
-    let buffer = c.self.invariant.buffer in
-    omega arith
+pub returns-then-not-self-clause-ok : goal.returns-then-not-self-clause-ok
+returns-then-not-self-clause-ok g c =
+    subst (λ (v : VolumeView). IsCommitted v v) c.self.view_is
+    (unchanged_committed _ c.self.inside.journal c.self.inside.mapped c.if-not-self.true c.in_default.is c.self.invariant)
 
-pub write_stable-requires : goal.write_stable-requires
-write_stable-requires g c =
-    let inside = area_inside c.self.inside.table c.self.inside.second c.self.invariant.fits c.self.invariant.table.layout in
-    let at : c.area_start-at.result ≡ area_start c.self.inside.table.layout c.self.inside.second = c.area_start-at.ensures ∙ ap (λ (l : Layout). area_start l c.self.inside.second) c.layout.ensures.layout in
-    let text : c.deref.result.now ≡ area_text c.self.inside.table = c.deref.ensures.value ∙ c.spell_area.ensures.text in
-    let len = ap length text in
-    let size = c.self.invariant.size in
-    omega arith
+pub copy_from-requires : goal.copy_from-requires
+copy_from-requires g c = c.self.invariant.bits ∙ sym (ap (λ (bits : List Bool). length bits) c.self.invariant.used ∙ length-used_places c.self.inside.kept)
 
 pub invariant_of-self : goal.invariant_of-self
 invariant_of-self g c =
-    let at : c.area_start-at.result ≡ area_start c.self.inside.table.layout c.self.inside.second = c.area_start-at.ensures ∙ ap (λ (l : Layout). area_start l c.self.inside.second) c.layout.ensures.layout in
-    let text : c.deref.result.now ≡ area_text c.self.inside.table = c.deref.ensures.value ∙ c.spell_area.ensures.text in
-    kept-committed c.self.inside.table c.self.inside.second c.self.inside.mapped (vec_capacity c.self.inside.buffer) (vec_capacity c.spell_area.new.buffer) c.self.inside.is_changed false
-    (g.D.Disk.seen c.self.inside.disk) (g.D.Disk.seen c.write_stable.new.disk) c.self.invariant c.spell_area.ensures.capacity c.write_stable.ensures.elapses.size
-    (commit-keeps c.self.inside.table c.self.inside.second c.self.inside.mapped (vec_capacity c.self.inside.buffer) c.self.inside.is_changed c.area_start-at.result c.deref.result.now
-    (g.D.Disk.seen c.self.inside.disk) (g.D.Disk.seen c.write_stable.new.disk) c.self.invariant at text (g.met.D.Disk.sized c.self.inside.disk) c.write_stable.ensures.live)
-    (λ _. commit-holds c.self.inside.table c.self.inside.second c.self.inside.mapped (vec_capacity c.self.inside.buffer) c.self.inside.is_changed c.area_start-at.result c.deref.result.now
-    (g.D.Disk.seen c.self.inside.disk) (g.D.Disk.seen c.write_stable.new.disk) c.self.invariant at text (g.met.D.Disk.sized c.self.inside.disk) c.in-Ok.ensures.written)
+    let now = is_committed c.self.inside.kept c.self.inside.journal.layout c.self.inside.journal.second c.self.inside.is_changed c.self.inside.held (g.D.Disk.seen c.self.inside.disk) (g.D.Disk.seen c.commit.new.disk)
+    c.self.invariant.journal c.self.invariant.table (none_told c.self.inside.journal.layout c.self.inside.journal.second (g.D.Disk.seen c.self.inside.disk).told (g.D.Disk.seen c.commit.new.disk).told c.commit.ensures.rest)
+    (c.self.invariant.committed c.in_default.is) c.in-Ok.ensures.kept in
+    kept-committed c.self.inside.kept c.self.inside.journal c.commit.new.self c.self.inside.mapped c.self.inside.held c.copy_from.new.self c.self.inside.is_changed c.self.inside.down (g.D.Disk.seen c.self.inside.disk) (g.D.Disk.seen c.commit.new.disk)
+    c.commit.ensures.layout c.in-Ok.ensures.ok c.commit.ensures.elapses.size c.copy_from.ensures now c.self.invariant
 
-pub invariant_of-self-in-Err : goal.invariant_of-self-in-Err
-invariant_of-self-in-Err g c =
-    let at : c.area_start-at.result ≡ area_start c.self.inside.table.layout c.self.inside.second = c.area_start-at.ensures ∙ ap (λ (l : Layout). area_start l c.self.inside.second) c.layout.ensures.layout in
-    let text : c.deref.result.now ≡ area_text c.self.inside.table = c.deref.ensures.value ∙ c.spell_area.ensures.text in
-    kept-committed c.self.inside.table c.self.inside.second c.self.inside.mapped (vec_capacity c.self.inside.buffer) (vec_capacity c.spell_area.new.buffer) c.self.inside.is_changed c.self.inside.is_changed
-    (g.D.Disk.seen c.self.inside.disk) (g.D.Disk.seen c.write_stable.new.disk) c.self.invariant c.spell_area.ensures.capacity c.write_stable.ensures.elapses.size
-    (commit-keeps c.self.inside.table c.self.inside.second c.self.inside.mapped (vec_capacity c.self.inside.buffer) c.self.inside.is_changed c.area_start-at.result c.deref.result.now
-    (g.D.Disk.seen c.self.inside.disk) (g.D.Disk.seen c.write_stable.new.disk) c.self.invariant at text (g.met.D.Disk.sized c.self.inside.disk) c.write_stable.ensures.live)
-    (λ e. absurd cc)
+pub returns-in-Ok-clause-ok : goal.returns-in-Ok-clause-ok
+returns-in-Ok-clause-ok g c =
+    let now = is_committed c.self.inside.kept c.self.inside.journal.layout c.self.inside.journal.second c.self.inside.is_changed c.self.inside.held (g.D.Disk.seen c.self.inside.disk) (g.D.Disk.seen c.commit.new.disk)
+    c.self.invariant.journal c.self.invariant.table (none_told c.self.inside.journal.layout c.self.inside.journal.second (g.D.Disk.seen c.self.inside.disk).told (g.D.Disk.seen c.commit.new.disk).told c.commit.ensures.rest)
+    (c.self.invariant.committed c.in_default.is) c.in-Ok.ensures.kept in
+    let bits : c.copy_from.new.self ≡ used_places c.self.inside.kept = c.copy_from.ensures ∙ c.self.invariant.used in
+    subst (λ (v : VolumeView). IsCommitted v (record {
+      seen = g.D.Disk.seen c.commit.new.disk;
+      table = c.self.inside.kept;
+      held = c.copy_from.new.self;
+      is_changed = false;
+      down = c.self.inside.down;
+    })) c.self.view_is (record {
+      same = ap (λ (xs : List Bool). record { seen = g.D.Disk.seen c.commit.new.disk; table = c.self.inside.kept; held = xs; is_changed = false; down = c.self.inside.down }) bits;
+      up = c.in_default.is;
+      opens = λ good. opens-committed c.self.inside.kept (not c.self.inside.journal.second) (used_places c.self.inside.kept) (g.D.Disk.seen c.commit.new.disk) c.self.invariant.log good now;
+    })
 
 pub returns-in-Ok-clause-held : goal.returns-in-Ok-clause-held
 returns-in-Ok-clause-held g c =
-    let at : c.area_start-at.result ≡ area_start c.self.inside.table.layout c.self.inside.second = c.area_start-at.ensures ∙ ap (λ (l : Layout). area_start l c.self.inside.second) c.layout.ensures.layout in
-    let text : c.deref.result.now ≡ area_text c.self.inside.table = c.deref.ensures.value ∙ c.spell_area.ensures.text in
-    commit-holds c.self.inside.table c.self.inside.second c.self.inside.mapped (vec_capacity c.self.inside.buffer) c.self.inside.is_changed c.area_start-at.result c.deref.result.now
-    (g.D.Disk.seen c.self.inside.disk) (g.D.Disk.seen c.write_stable.new.disk) c.self.invariant at text (g.met.D.Disk.sized c.self.inside.disk) c.in-Ok.ensures.written
+    let now = is_committed c.self.inside.kept c.self.inside.journal.layout c.self.inside.journal.second c.self.inside.is_changed c.self.inside.held (g.D.Disk.seen c.self.inside.disk) (g.D.Disk.seen c.commit.new.disk)
+    c.self.invariant.journal c.self.invariant.table (none_told c.self.inside.journal.layout c.self.inside.journal.second (g.D.Disk.seen c.self.inside.disk).told (g.D.Disk.seen c.commit.new.disk).told c.commit.ensures.rest)
+    (c.self.invariant.committed c.in_default.is) c.in-Ok.ensures.kept in
+    live-committed c.self.inside.kept (not c.self.inside.journal.second) (used_places c.self.inside.kept) (g.D.Disk.seen c.commit.new.disk) now
+
+pub returns-in-Ok-clause-images : goal.returns-in-Ok-clause-images
+returns-in-Ok-clause-images g c = λ up.
+    subst (λ (v : VolumeView). MayCommit v.table v.seen (g.D.Disk.seen c.commit.new.disk)) c.self.view_is
+    (may_commit c.self.inside.kept c.self.inside.journal.layout c.self.inside.journal.second c.self.inside.is_changed c.self.inside.held (g.D.Disk.seen c.self.inside.disk) (g.D.Disk.seen c.commit.new.disk)
+    c.self.invariant.journal c.self.invariant.table c.self.invariant.log (c.self.invariant.committed c.in_default.is) c.commit.ensures.images)
 
 pub returns-in-Ok-clause-files : goal.returns-in-Ok-clause-files
 returns-in-Ok-clause-files g c =
-    let at : c.area_start-at.result ≡ area_start c.self.inside.table.layout c.self.inside.second = c.area_start-at.ensures ∙ ap (λ (l : Layout). area_start l c.self.inside.second) c.layout.ensures.layout in
-    let text : c.deref.result.now ≡ area_text c.self.inside.table = c.deref.ensures.value ∙ c.spell_area.ensures.text in
-    rw (← c.self.view_is) (files-committed c.self.inside.table (live_of (g.D.Disk.seen c.self.inside.disk)) (live_of (g.D.Disk.seen c.write_stable.new.disk))
-    (commit-keeps c.self.inside.table c.self.inside.second c.self.inside.mapped (vec_capacity c.self.inside.buffer) c.self.inside.is_changed c.area_start-at.result c.deref.result.now
-    (g.D.Disk.seen c.self.inside.disk) (g.D.Disk.seen c.write_stable.new.disk) c.self.invariant at text (g.met.D.Disk.sized c.self.inside.disk) c.write_stable.ensures.live))
+    rw (← c.self.view_is) (files-rest c.self.inside.kept c.self.inside.journal.layout c.self.inside.journal.second (live_of (g.D.Disk.seen c.self.inside.disk)) (live_of (g.D.Disk.seen c.commit.new.disk))
+    c.self.invariant.table (sym c.self.invariant.journal) c.commit.ensures.rest)
 
-pub returns-in-Err-clause-files : goal.returns-in-Err-clause-files
-returns-in-Err-clause-files g c =
-    let at : c.area_start-at.result ≡ area_start c.self.inside.table.layout c.self.inside.second = c.area_start-at.ensures ∙ ap (λ (l : Layout). area_start l c.self.inside.second) c.layout.ensures.layout in
-    let text : c.deref.result.now ≡ area_text c.self.inside.table = c.deref.ensures.value ∙ c.spell_area.ensures.text in
-    rw (← c.self.view_is) (files-committed c.self.inside.table (live_of (g.D.Disk.seen c.self.inside.disk)) (live_of (g.D.Disk.seen c.write_stable.new.disk))
-    (commit-keeps c.self.inside.table c.self.inside.second c.self.inside.mapped (vec_capacity c.self.inside.buffer) c.self.inside.is_changed c.area_start-at.result c.deref.result.now
-    (g.D.Disk.seen c.self.inside.disk) (g.D.Disk.seen c.write_stable.new.disk) c.self.invariant at text (g.met.D.Disk.sized c.self.inside.disk) c.write_stable.ensures.live))
+pub returns-in-Err-Down-clause-images : goal.returns-in-Err-Down-clause-images
+returns-in-Err-Down-clause-images g c = λ up.
+    subst (λ (v : VolumeView). MayCommit v.table v.seen (g.D.Disk.seen c.commit.new.disk)) c.self.view_is
+    (may_commit c.self.inside.kept c.self.inside.journal.layout c.self.inside.journal.second c.self.inside.is_changed c.self.inside.held (g.D.Disk.seen c.self.inside.disk) (g.D.Disk.seen c.commit.new.disk)
+    c.self.invariant.journal c.self.invariant.table c.self.invariant.log (c.self.invariant.committed c.in_default.is) c.commit.ensures.images)
+
+pub returns-in-Err-Down-clause-files : goal.returns-in-Err-Down-clause-files
+returns-in-Err-Down-clause-files g c =
+    rw (← c.self.view_is) (files-rest c.self.inside.kept c.self.inside.journal.layout c.self.inside.journal.second (live_of (g.D.Disk.seen c.self.inside.disk)) (live_of (g.D.Disk.seen c.commit.new.disk))
+    c.self.invariant.table (sym c.self.invariant.journal) c.commit.ensures.rest)

@@ -1,5 +1,0 @@
-use Rattle.sis_volume.proofs.OpeningReads.{one_read}
-use Rattle.sis_volume.proofs.opening.read_at.Goals as goal
-
-pub returns-clause-reads : goal.returns-clause-reads
-returns-clause-reads g c = one_read _ _ _ _ _ c.read.ensures.call

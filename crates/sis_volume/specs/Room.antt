@@ -1,0 +1,33 @@
+-- Why making room may fail.
+use Rattle.std.specs.Prelude.{◌≡◌, ℕ, ◌+◌, ◌<◌, Some}
+use Rattle.sis_disk.specs.Layout.{data_blocks}
+use Rattle.sis_disk.specs.Record.{Rose}
+use Rattle.sis_journal.specs.Committing.{IsFailed}
+use Rattle.sis_model.specs.declared.reply.Hindrance.{Hindrance}
+use Rattle.sis_model.specs.declared.reply.Hindrance.TheVariants as hindrance
+use Rattle.sis_table.specs.Volume.{used}
+use Rattle.sis_volume.specs.View.{VolumeView}
+
+-- a commit failed at this call, and nothing else changed
+pub record WentDown (at : ℕ) (old new : VolumeView) : Type 0 where
+  pub down : new.down ≡ Some at
+  pub failed : IsFailed at old.seen new.seen
+  pub cause : Rose old.seen.faults new.seen.faults
+  pub same : new ≡ record old { seen = new.seen; down = new.down }
+
+-- the table maps too many places for so many more, and nothing changed
+pub record IsFull (needed mapped total : ℕ) (old new : VolumeView) : Type 0 where
+  pub mapped_now : mapped ≡ used old.table
+  pub total_now : total ≡ data_blocks old.table.layout
+  pub cause : total < mapped + needed
+  pub same : new ≡ old
+
+-- why making room for so many blocks may fail
+abbrev pub HindersRoom : ℕ → VolumeView → VolumeView → Hindrance → Type 0
+HindersRoom needed old new (hindrance.Full want mapped total) =
+    (want ≡ needed) × IsFull needed mapped total old new
+HindersRoom needed old new (hindrance.Down at) = WentDown at old new
+HindersRoom needed old new hindrance.Memory = ⊥
+HindersRoom needed old new hindrance.Disk = ⊥
+HindersRoom needed old new (hindrance.Limit kind) = ⊥
+HindersRoom needed old new (hindrance.TableFull len cap) = ⊥

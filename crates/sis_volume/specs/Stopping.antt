@@ -1,0 +1,39 @@
+-- What a stop may leave while the calls of a volume go by.
+use Rattle.std.specs.Prelude.{◌≡◌, ◌⊎◌, false, None, Some}
+use Rattle.sis_disk.specs.Record.{DiskRecord, Seen, live_bytes}
+use Rattle.sis_disk.specs.Stops.{Leaves, Now, Shows}
+use Rattle.sis_table.specs.Content.{Files, files_of}
+use Rattle.sis_table.specs.Good.{IsGood}
+use Rattle.sis_table.specs.Opens.{OpensAs}
+use Rattle.sis_table.specs.Volume.{VolumeTable, used_places}
+use Rattle.sis_volume.specs.View.{VolumeView}
+
+-- each image that a stop may leave now opens as these files
+abbrev pub OpensNow : Files → Seen → Type 0
+OpensNow files seen = Now (Shows (OpensAs files)) seen
+
+-- the same for the files that the table has now
+abbrev pub OpensTable : VolumeTable → Seen → Type 0
+OpensTable v seen =
+    (r : DiskRecord) → seen.told ≡ Some r → OpensNow (files_of v (live_bytes r)) seen
+
+-- whatever the images opened as, they do so at every moment from old to new
+abbrev pub OnlyOpens : Seen → Seen → Type 0
+OnlyOpens old new = (files : Files) → OpensNow files old → Leaves (OpensAs files) old new
+
+-- at every moment from old to new they open as before, or as the files that the table had
+abbrev pub MayCommit : VolumeTable → Seen → Seen → Type 0
+MayCommit v old new =
+    IsGood v → (files : Files) → OpensNow files old
+    → (r : DiskRecord) → old.told ≡ Some r
+    → Leaves (λ m. OpensAs files m ⊎ OpensAs (files_of v (live_bytes r)) m) old new
+
+-- the table is the committed one, and nothing else changed
+pub record IsCommitted (old new : VolumeView) : Type 0 where
+  pub same : new ≡ record old {
+    seen = new.seen;
+    held = used_places old.table;
+    is_changed = false;
+  }
+  pub up : new.down ≡ None
+  pub opens : IsGood new.table → OpensTable new.table new.seen
