@@ -143,6 +143,7 @@ IsBuilt (command.Put name bytes) = ⊤
 IsBuilt (command.Stat name) = ⊤
 IsBuilt (command.List after) = ⊤
 IsBuilt command.Space = ⊤
+IsBuilt command.Sync = ⊤
 IsBuilt _ = ⊥
 
 -- what each script keeps: its clients, its commands and its turns are ones that a script may have

@@ -35,6 +35,7 @@ is_built verb.Put = true
 is_built verb.Stat = true
 is_built verb.List = true
 is_built verb.Space = true
+is_built verb.Sync = true
 is_built _ = false
 
 -- the verb, where it is one that is carried out

@@ -54,7 +54,7 @@ fn read(alloc: Global, text: &[u8]) -> Result<Result<Script, ScriptFault>, Alloc
 
 #[test]
 fn the_first_wrong_field_is_named(rt: HostRuntime) -> Result<(), Fail> {
-    let rows: [(&[u8], LineKind); 48] = [
+    let rows: [(&[u8], LineKind); 49] = [
         (b"\xff", LineKind::Encoding),
         (b"#\xff", LineKind::Encoding),
         (b"0 put \"a\" \xff", LineKind::Encoding),
@@ -74,7 +74,7 @@ fn the_first_wrong_field_is_named(rt: HostRuntime) -> Result<(), Fail> {
         (b"1 put\"a\" 61", LineKind::Verb),
         (b"1 space\r", LineKind::Verb),
         (b"1 end", LineKind::Verb),
-        (b"1 sync", LineKind::Verb),
+        (b"1 grovel", LineKind::Verb),
         (b"1 open a x", LineKind::Verb),
         (b"1 put ", LineKind::Name),
         (b"1 put a 61", LineKind::Name),
@@ -100,6 +100,7 @@ fn the_first_wrong_field_is_named(rt: HostRuntime) -> Result<(), Fail> {
         (b"1 list \"a\"\"b\"", LineKind::Fields),
         (b"1 space ", LineKind::Fields),
         (b"1 space x", LineKind::Fields),
+        (b"1 sync x", LineKind::Fields),
         (b"@", LineKind::Fields),
         (b"@1", LineKind::Fields),
         (b"@\t1", LineKind::Fields),
@@ -213,7 +214,8 @@ const SCRIPT: &[u8] = b"# all verbs there are\r
 1 list\r
 @ 1
 1 list \"a\"
-1 space";
+1 space
+1 sync";
 
 #[test]
 fn a_script_comes_in_any_pieces(rt: HostRuntime) -> Result<(), Fail> {
@@ -222,9 +224,9 @@ fn a_script_comes_in_any_pieces(rt: HostRuntime) -> Result<(), Fail> {
         let mut source = source_of(alloc, SCRIPT, piece)?;
         let script = read_script(alloc, &mut source)?;
         assert_eq!(rt; script.schedule.as_slice(), [1, 1, 1].as_slice());
-        assert_eq!(rt; script.lines.len(), 6);
-        let [full, empty, stat, all, after, space] = script.lines.as_slice() else {
-            return Err(Fail::new("not six lines"));
+        assert_eq!(rt; script.lines.len(), 7);
+        let [full, empty, stat, all, after, space, sync] = script.lines.as_slice() else {
+            return Err(Fail::new("not seven lines"));
         };
         assert!(rt; puts(alloc, &full.command, b"a\xff\0")?);
         assert!(rt; puts(alloc, &empty.command, b"")?);
@@ -232,6 +234,7 @@ fn a_script_comes_in_any_pieces(rt: HostRuntime) -> Result<(), Fail> {
         assert!(rt; matches!(all.command, Command::List { after: None }));
         assert!(rt; matches!(after.command, Command::List { after: Some(_) }));
         assert!(rt; matches!(space.command, Command::Space));
+        assert!(rt; matches!(sync.command, Command::Sync));
     }
     Ok(())
 }

@@ -93,7 +93,10 @@ impl Verb {
     fn is_built(self) -> bool
         ensures { result ≡ is_built self }
     {
-        matches!(self, Verb::Put | Verb::Stat | Verb::List | Verb::Space)
+        matches!(
+            self,
+            Verb::Put | Verb::Stat | Verb::List | Verb::Space | Verb::Sync
+        )
     }
 }
 
