@@ -4,7 +4,11 @@ pub mod InOrder
 pub mod Lists
 pub mod Makes
 pub mod NumberLemmas
+pub mod Reopening
 pub mod Runs
 pub mod ServeLemmas
 pub mod Sizes
+pub mod Stopping
+pub mod Surviving
+pub mod WordLemmas
 pub mod Worlds

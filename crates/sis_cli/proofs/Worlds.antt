@@ -25,16 +25,21 @@ abbrev put_key : List ℕ → List (List ℕ) → List (List ℕ)
 put_key k [] = k ∷ []
 put_key k (j ∷ js) = by_order (name_cmp k j) (k ∷ j ∷ js) (j ∷ js) (j ∷ put_key k js)
 
-keys_put : {X : Type 0} (k : List ℕ) (x : X) (es : List (List ℕ × X)) → map (λ e. e.0) (put name_cmp k x es) ≡ put_key k (map (λ e. e.0) es)
+keys_put : {X : Type 0} (k : List ℕ) (x : X) (es : List (List ℕ × X))
+    → map (λ e. e.0) (put name_cmp k x es) ≡ put_key k (map (λ e. e.0) es)
 keys_put k x [] = refl
 keys_put k x (e ∷ es) = by (name_cmp k e.0) (keys_put k x es)
   where
-    by : (o : Ordering) → map (λ d. d.0) (put name_cmp k x es) ≡ put_key k (map (λ d. d.0) es) → map (λ d. d.0) (by_order o ((k, x) ∷ e ∷ es) ((e.0, x) ∷ es) (e ∷ put name_cmp k x es)) ≡ by_order o (k ∷ e.0 ∷ map (λ d. d.0) es) (e.0 ∷ map (λ d. d.0) es) (e.0 ∷ put_key k (map (λ d. d.0) es))
+    by : (o : Ordering) → map (λ d. d.0) (put name_cmp k x es) ≡ put_key k (map (λ d. d.0) es)
+        → map (λ d. d.0) (by_order o ((k, x) ∷ e ∷ es) ((e.0, x) ∷ es)
+        (e ∷ put name_cmp k x es)) ≡ by_order o (k ∷ e.0 ∷ map (λ d. d.0) es)
+        (e.0 ∷ map (λ d. d.0) es) (e.0 ∷ put_key k (map (λ d. d.0) es))
     by Less rest = refl
     by Equal rest = refl
     by Greater rest = ap (λ (js : List (List ℕ)). e.0 ∷ js) rest
 
-keys-insert : {X : Type 0} (m : FinMap name_cmp X) (k : List ℕ) (x : X) → keys (insert m k x) ≡ put_key k (keys m)
+keys-insert : {X : Type 0} (m : FinMap name_cmp X) (k : List ℕ) (x : X)
+    → keys (insert m k x) ≡ put_key k (keys m)
 keys-insert m k x = ap (map (λ e. e.0)) (entries-insert name_total m k x) ∙ keys_put k x (entries m)
 
 abbrev keys_from : List (List ℕ) → List (List ℕ)
@@ -45,31 +50,43 @@ no_entries : {X : Type 0} (es : List X) → length es ≡ 0 → es ≡ []
 no_entries [] e = refl
 no_entries (x ∷ xs) e = absurd (omega arith)
 
-keys-from_entries : {X : Type 0} (es : List (List ℕ × X)) → keys (from_entries {R = name_cmp} es) ≡ keys_from (map (λ e. e.0) es)
-keys-from_entries {X = X} [] = ap (map (λ e. e.0)) (no_entries (entries (empty {X = X} {R = name_cmp})) (sym (len-entries (empty {X = X} {R = name_cmp})) ∙ len-empty name_cmp X))
-keys-from_entries (e ∷ es) = keys-insert (from_entries es) e.0 e.1 ∙ ap (put_key e.0) (keys-from_entries es)
+keys-from_entries : {X : Type 0} (es : List (List ℕ × X))
+    → keys (from_entries {R = name_cmp} es) ≡ keys_from (map (λ e. e.0) es)
+keys-from_entries {X = X} [] =
+    ap (map (λ e. e.0)) (no_entries (entries (empty {X = X} {R = name_cmp}))
+    (sym (len-entries (empty {X = X} {R = name_cmp})) ∙ len-empty name_cmp X))
+keys-from_entries (e ∷ es) =
+    keys-insert (from_entries es) e.0 e.1 ∙ ap (put_key e.0) (keys-from_entries es)
 
-names_mapped : {X : Type 0} (f : Node → X) (nodes : List Node) → map (λ (e : List ℕ × X). e.0) (map (λ (n : Node). (n.name, f n)) nodes) ≡ map (λ (n : Node). n.name) nodes
+names_mapped : {X : Type 0} (f : Node → X) (nodes : List Node)
+    → map (λ (e : List ℕ × X). e.0) (map (λ (n : Node). (n.name, f n)) nodes) ≡ map
+    (λ (n : Node). n.name) nodes
 names_mapped f [] = refl
 names_mapped f (n ∷ ns) = ap (λ (ks : List (List ℕ)). n.name ∷ ks) (names_mapped f ns)
 
 -- the names of the files that a table stands for are those of its index
 keys-files_of : (v : VolumeTable) (live : List ℕ) → keys (files_of v live) ≡ keys (ids_of v)
 keys-files_of v live =
-    keys-from_entries (map (λ n. (n.name, content_of n live)) v.nodes) ∙ ap keys_from (names_mapped (λ n. content_of n live) v.nodes ∙ sym (names_mapped (λ n. n.id) v.nodes))
+    keys-from_entries (map (λ n. (n.name, content_of n live)) v.nodes)
+    ∙ ap keys_from (names_mapped (λ n. content_of n live) v.nodes
+    ∙ sym (names_mapped (λ n. n.id) v.nodes))
     ∙ sym (keys-from_entries (map (λ n. (n.name, n.id)) v.nodes))
 
 -- ---- a file under a new name
 
-find_passed : {X : Type 0} (p : X → Bool) (x : X) (xs : List X) → list_any p xs ≡ false → find p (xs ++ x ∷ []) ≡ cond (p x) (Some x) None
+find_passed : {X : Type 0} (p : X → Bool) (x : X) (xs : List X) → list_any p xs ≡ false
+    → find p (xs ++ x ∷ []) ≡ cond (p x) (Some x) None
 find_passed p x [] h = refl
 find_passed p x (y ∷ ys) h = by (p y) h (λ none. find_passed p x ys none)
   where
-    by : (b : Bool) → (b || list_any p ys) ≡ false → (list_any p ys ≡ false → find p (ys ++ x ∷ []) ≡ cond (p x) (Some x) None) → cond b (Some y) (find p (ys ++ x ∷ [])) ≡ cond (p x) (Some x) None
+    by : (b : Bool) → (b || list_any p ys) ≡ false
+        → (list_any p ys ≡ false → find p (ys ++ x ∷ []) ≡ cond (p x) (Some x) None)
+        → cond b (Some y) (find p (ys ++ x ∷ [])) ≡ cond (p x) (Some x) None
     by true e rest = absurd cc
     by false e rest = rest e
 
-find_before : {X : Type 0} (p : X → Bool) (x : X) (xs : List X) → p x ≡ false → find p (xs ++ x ∷ []) ≡ find p xs
+find_before : {X : Type 0} (p : X → Bool) (x : X) (xs : List X) → p x ≡ false
+    → find p (xs ++ x ∷ []) ≡ find p xs
 find_before p x [] h = ap (λ (b : Bool). cond b (Some x) None) h
 find_before p x (y ∷ ys) h = ap (cond (p y) (Some y)) (find_before p x ys h)
 
@@ -83,70 +100,102 @@ same_is a b e = name_ties b a (is_equal (name_cmp b a) (same_test b a ∙ e))
 
 -- the size under a name, where one more file has been added
 sizes_added : (nodes : List Node) (n : Node) (q : List ℕ) → list_any (has_name n.name) nodes ≡ false
-    → option_map (λ m. m.size) (find (has_name q) (nodes ++ n ∷ [])) ≡ cond (same_name n.name q) (Some n.size) (option_map (λ m. m.size) (find (has_name q) nodes))
+    → option_map (λ m. m.size) (find (has_name q) (nodes ++ n ∷ [])) ≡ cond (same_name n.name q)
+    (Some n.size) (option_map (λ m. m.size) (find (has_name q) nodes))
 sizes_added nodes n q free = by (same_name n.name q) refl
   where
-    by : (b : Bool) → same_name n.name q ≡ b → option_map (λ m. m.size) (find (has_name q) (nodes ++ n ∷ [])) ≡ cond b (Some n.size) (option_map (λ m. m.size) (find (has_name q) nodes))
+    by : (b : Bool) → same_name n.name q ≡ b
+        → option_map (λ m. m.size) (find (has_name q) (nodes ++ n ∷ [])) ≡ cond b (Some n.size)
+        (option_map (λ m. m.size) (find (has_name q) nodes))
     by true e =
-        ap (option_map (λ (m : Node). m.size)) (find_passed (has_name q) n nodes (ap (λ (x : List ℕ). list_any (has_name x) nodes) (same_is n.name q e) ∙ free)
+        ap (option_map (λ (m : Node). m.size))
+        (find_passed (has_name q) n nodes
+        (ap (λ (x : List ℕ). list_any (has_name x) nodes) (same_is n.name q e) ∙ free)
         ∙ ap (λ (b : Bool). cond b (Some n) None) e)
     by false e = ap (option_map (λ (m : Node). m.size)) (find_before (has_name q) n nodes e)
 
-some_of_cond : {X Y : Type 0} (f : X → Y) (b : Bool) (x : X) (o : Option X) → option_map f (cond b (Some x) o) ≡ cond b (Some (f x)) (option_map f o)
+some_of_cond : {X Y : Type 0} (f : X → Y) (b : Bool) (x : X) (o : Option X)
+    → option_map f (cond b (Some x) o) ≡ cond b (Some (f x)) (option_map f o)
 some_of_cond f true x o = refl
 some_of_cond f false x o = refl
 
-stands_with : (old new : Option Files) (files : Files) (name bytes : List ℕ) → new ≡ option_map (λ (fs : Files). insert fs name bytes) old → IfSome old (λ fs. fs ≡ files) → IfSome new (λ fs. fs ≡ insert files name bytes)
-stands_with None new files name bytes e h = subst (λ (o : Option Files). IfSome o (λ fs. fs ≡ insert files name bytes)) (sym e) tt
-stands_with (Some fs) new files name bytes e h = subst (λ (o : Option Files). IfSome o (λ fs. fs ≡ insert files name bytes)) (sym e) (ap (λ (x : Files). insert x name bytes) h)
+stands_with : (old new : Option Files) (files : Files) (name bytes : List ℕ)
+    → new ≡ option_map (λ (fs : Files). insert fs name bytes) old → IfSome old (λ fs. fs ≡ files)
+    → IfSome new (λ fs. fs ≡ insert files name bytes)
+stands_with None new files name bytes e h =
+    subst (λ (o : Option Files). IfSome o (λ fs. fs ≡ insert files name bytes)) (sym e) tt
+stands_with (Some fs) new files name bytes e h =
+    subst (λ (o : Option Files). IfSome o (λ fs. fs ≡ insert files name bytes)) (sym e)
+    (ap (λ (x : Files). insert x name bytes) h)
 
-abbrev added_node : (v : VolumeTable) (name bytes : List ℕ) (new : VolumeTable) → AddsFile v new name bytes → Node
-added_node v name bytes new adds = record { id = v.next_id; name = name; size = length bytes; version = 1; runs = adds.runs }
+abbrev added_node : (v : VolumeTable) (name bytes : List ℕ) (new : VolumeTable)
+    → AddsFile v new name bytes → Node
+added_node v name bytes new adds =
+    record { id = v.next_id; name = name; size = length bytes; version = 1; runs = adds.runs }
 
 -- the world with the file, and the volume that has it
-pub shows_more : (w : World) (old new : VolumeView) (name bytes : List ℕ) → ShowsWorld w old → list_any (has_name name) old.table.nodes ≡ false
+pub shows_more : (w : World) (old new : VolumeView) (name bytes : List ℕ) → ShowsWorld w old
+    → list_any (has_name name) old.table.nodes ≡ false
     → AddsFile old.table new.table name bytes
-    → files_in new.table new.seen ≡ option_map (λ (files : Files). insert files name bytes) (files_in old.table old.seen)
+    → files_in new.table new.seen ≡ option_map (λ (files : Files). insert files name bytes)
+    (files_in old.table old.seen)
     → ShowsWorld (with_file w name bytes) new
 shows_more w old new name bytes h free adds files =
     let n = added_node old.table name bytes new.table adds in
-    let u : VolumeTable = record old.table { next_id = old.table.next_id + 1; nodes = old.table.nodes ++ n ∷ [] } in
+    let u : VolumeTable =
+    record old.table { next_id = old.table.next_id + 1; nodes = old.table.nodes ++ n ∷ [] } in
     record {
       letter = h.letter ∙ ap (λ (t : VolumeTable). t.layout.letter) (sym adds.added);
       names =
-          keys-insert w.files name bytes ∙ ap (put_key name) (h.names ∙ sym (keys-files_of old.table [])) ∙ sym (keys-insert (files_of old.table []) name (content_of n []))
-          ∙ ap keys (sym (files_of-made old.table n (old.table.next_id + 1) [] free)) ∙ keys-files_of u [] ∙ ap (λ (t : VolumeTable). keys (ids_of t)) (sym adds.added);
+          keys-insert w.files name bytes
+          ∙ ap (put_key name) (h.names ∙ sym (keys-files_of old.table []))
+          ∙ sym (keys-insert (files_of old.table []) name (content_of n []))
+          ∙ ap keys (sym (files_of-made old.table n (old.table.next_id + 1) [] free))
+          ∙ keys-files_of u [] ∙ ap (λ (t : VolumeTable). keys (ids_of t)) (sym adds.added);
       sizes = λ q.
-          ap (option_map length) (get-insert name_total w.files name bytes q) ∙ some_of_cond length (is_at (name_cmp q) name) bytes (get w.files q)
-          ∙ ap (λ (b : Bool). cond b (Some (length bytes)) (option_map length (get w.files q))) (same_test q name)
+          ap (option_map length) (get-insert name_total w.files name bytes q)
+          ∙ some_of_cond length (is_at (name_cmp q) name) bytes (get w.files q)
+          ∙ ap (λ (b : Bool). cond b (Some (length bytes)) (option_map length (get w.files q)))
+          (same_test q name)
           ∙ ap (cond (same_name name q) (Some (length bytes))) (h.sizes q)
-          ∙ sym (sizes_added old.table.nodes n q free) ∙ ap (λ (t : VolumeTable). option_map (λ (m : Node). m.size) (node_named t q)) (sym adds.added);
-      stands = stands_with (files_in old.table old.seen) (files_in new.table new.seen) w.files name bytes files h.stands;
+          ∙ sym (sizes_added old.table.nodes n q free)
+          ∙ ap (λ (t : VolumeTable). option_map (λ (m : Node). m.size) (node_named t q))
+          (sym adds.added);
+      stands =
+          stands_with (files_in old.table old.seen) (files_in new.table new.seen) w.files name bytes
+          files h.stands;
       opens = h.opens;
     }
 
 -- the same world, and a volume with the same files
-pub shows_same : (w : World) (old new : VolumeView) → ShowsWorld w old → new.table ≡ old.table → files_in new.table new.seen ≡ files_in old.table old.seen → ShowsWorld w new
+pub shows_same : (w : World) (old new : VolumeView) → ShowsWorld w old → new.table ≡ old.table
+    → files_in new.table new.seen ≡ files_in old.table old.seen → ShowsWorld w new
 shows_same w old new h table files = record {
   letter = h.letter ∙ ap (λ (t : VolumeTable). t.layout.letter) (sym table);
   names = h.names ∙ ap (λ (t : VolumeTable). keys (ids_of t)) (sym table);
-  sizes = λ q. h.sizes q ∙ ap (λ (t : VolumeTable). option_map (λ (m : Node). m.size) (node_named t q)) (sym table);
+  sizes =
+      λ q. h.sizes q ∙ ap (λ (t : VolumeTable). option_map (λ (m : Node). m.size)
+      (node_named t q)) (sym table);
   stands = subst (λ (o : Option Files). IfSome o (λ fs. fs ≡ w.files)) (sym files) h.stands;
   opens = h.opens;
 }
 
 -- a client that has nothing open leaves the world as it is
 pub without_none : (w : World) (client : ℕ) → w.opens ≡ [] → without_client w client ≡ w
-without_none w client none = ap (λ (os : List OpenFile). record w { opens = filter (λ o. not (o.client == client)) os }) none ∙ ap (λ (os : List OpenFile). record w { opens = os }) (sym none)
+without_none w client none =
+    ap (λ (os : List OpenFile). record w { opens = filter (λ o. not (o.client == client)) os }) none
+    ∙ ap (λ (os : List OpenFile). record w { opens = os }) (sym none)
 
 pub no_opens : (w : World) (client : ℕ) → w.opens ≡ [] → length (opens_of w client) ≡ 0
-no_opens w client none = ap (λ (os : List OpenFile). length (filter (λ o. o.client == client) os)) none
+no_opens w client none =
+    ap (λ (os : List OpenFile). length (filter (λ o. o.client == client) os)) none
 
 -- ---- the world at the start
 
 -- a volume shows the files for which its table and some bytes of the image's length stand
 pub shows_files : (v : VolumeView) (live : List ℕ)
-    → ((q : List ℕ) → option_map length (get (files_of v.table live) q) ≡ option_map (λ n. n.size) (node_named v.table q))
+    → ((q : List ℕ) → option_map length (get (files_of v.table live) q) ≡ option_map (λ n.
+    n.size) (node_named v.table q))
     → IfSome (files_in v.table v.seen) (λ files. files ≡ files_of v.table live)
     → ShowsWorld (unopened v.table.layout.letter (files_of v.table live)) v
 shows_files v live sizes stands = record {

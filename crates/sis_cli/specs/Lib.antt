@@ -3,4 +3,5 @@ pub mod Making
 pub mod Run
 pub mod Session
 pub mod Stages
+pub mod Stops
 pub mod Words

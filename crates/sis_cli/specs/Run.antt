@@ -1,6 +1,6 @@
 -- What a run may answer, and what it leaves.
 use Rattle.std.specs.Prelude.{◌≡◌, ◌≢◌, ◌⊎◌, ℕ, ◌*◌, false, List, [], map, Option, Some, None, IfSome, Result, Ok, Err, ⊤, true, All, ◌+◌, ◌≤◌}
-use Rattle.sis_disk.specs.Record.{Seen, Rose, live_of}
+use Rattle.sis_disk.specs.Record.{DiskRecord, Seen, Rose, live_of}
 use Rattle.sis_disk.specs.declared.layout.Layout.{Layout}
 use Rattle.sis_disk.specs.declared.layout.ImageKind.TheVariants as image
 use Rattle.sis_disk.specs.Streams.{Appended, AppendedFront}
@@ -20,12 +20,14 @@ use Rattle.sis_disk.specs.Superblock.{ImageFault}
 use Rattle.sis_volume.specs.View.{VolumeView}
 use Rattle.sis_script.specs.Taken.{TakesAtMost}
 use Rattle.sis_script.specs.declared.limits.TheConstants.{MOST_BYTES}
-use Rattle.sis_volume.specs.Opening.{OnlyReads}
+use Rattle.sis_history.specs.Stops.{AreInOrder, Survives, SurvivesStops}
+use Rattle.sis_journal.specs.Opening.{SyncThenReads}
 use Rattle.sis_volume.specs.Formatting.{EndsInSync}
 use Rattle.sis_cli.specs.Words.{Words, Fault}
 use Rattle.sis_cli.specs.Exit.{risen, length_at}
 use Rattle.sis_cli.specs.Session.{ShowsWorld, stage_of}
 use Rattle.sis_cli.specs.Stages.{IsRun, any_down, Stage}
+use Rattle.sis_cli.specs.Stops.{IsSurvived, SyncsAt}
 use Rattle.sis_cli.specs.declared.usage.Verb.{Verb}
 use Rattle.sis_cli.specs.declared.usage.Verb.TheVariants as verb
 use Rattle.sis_cli.specs.declared.exit.Exit.{Exit}
@@ -142,7 +144,7 @@ pub record RunsScript (left : Option (List ℕ)) (entries : List Entry) : Type 0
   pub calls : (client : ℕ) → calls_of entries client ≡ expected_calls parts.lines client
 
 -- Which entries a run has that ended so: the script's calls, or none where it ended before the
--- first of them. `unopened` says that the disk was only read, as where opening failed.
+-- first of them. `unopened` says that the disk was synced and read, as where opening failed.
 abbrev pub HasCalls : Exit → Type 0 → Option (List ℕ) → List Entry → Type 0
 HasCalls exit.Done unopened left entries = RunsScript left entries
 HasCalls exit.Sink unopened left entries = RunsScript left entries
@@ -200,6 +202,7 @@ abbrev pub untold : VolumeTable → VolumeView
 untold v = record {
   seen = record { size = 0; calls = 0; faults = 0; told = None };
   table = v;
+  held = [];
   is_changed = false;
   down = None;
 }
@@ -217,7 +220,7 @@ pub record HoldsFiles (m : List ℕ) (v : VolumeTable) (w : World) : Type 0 wher
   pub stands : StandsFor v m w.files
 
 -- The table that was opened is one, of the disk's length, its files go together, and the disk was
--- called at most three times.
+-- called at most four times.
 pub record IsOpened (s : Stage) (old : Seen) : Type 0 where
   pub table : IsTable s.table
   pub good : IsGood s.table
@@ -225,16 +228,23 @@ pub record IsOpened (s : Stage) (old : Seen) : Type 0 where
   pub up : s.down ≡ None
   pub faults : old.faults ≤ s.faults
   pub calls : old.calls ≤ s.calls
-  pub few : s.calls ≤ old.calls + 3
+  pub few : s.calls ≤ old.calls + 4
 
 -- the last stage has the counts of the returned disk
 pub record IsLast (s : Stage) (new : Seen) : Type 0 where
   pub faults : s.faults ≡ new.faults
   pub calls : s.calls ≡ new.calls
 
+-- the lines ran on an opened image: there are entries, or the image is one that is opened, and the
+-- call with which opening begins was a sync that succeeded
+abbrev pub HasOpened : Seen → DiskRecord → List Entry → Type 0
+HasOpened old now entries = (entries ≢ []) ⊎ (IsImage (live_of old) × SyncsAt old.calls now)
+
 -- One legal history of separate files, which begins with those of the opening image, and leads from
 -- the stage at opening to the last one. Where no commit failed, the last live bytes hold what came
--- of both.
+-- of both. Stopped at any call behind opening's first, whether a commit failed or not, the disk is
+-- left with an image that opens as the files after some of the entries: all that were sure by then
+-- are among them.
 pub record IsHistory (old new : Seen) (status : Exit) (entries : List Entry) : Type 0 where
   pub world : World
   pub opened : Stage
@@ -242,13 +252,17 @@ pub record IsHistory (old new : Seen) (status : Exit) (entries : List Entry) : T
   pub starts : Starts (live_of old) world opened.table
   pub first : entries ≢ [] → IsOpened opened old
   pub legal : IsLegal world entries
+  pub order : AreInOrder entries
   pub kept : IsRun opened entries last
   pub ends : entries ≢ [] → IsLast last new
   pub held : IfKept status entries
       (IfSome (live_of new) (λ m. HoldsFiles m last.table (world_after world entries)))
+  pub stops : (before now : DiskRecord) → old.told ≡ Some before → new.told ≡ Some now
+      → HasOpened old now entries
+      → SurvivesStops (old.calls + 1) world entries now
 
 -- A run ends in `Done` only where no commit failed, and in `Disk` only where one did, or where the
--- disk was only read, as where opening failed.
+-- disk was synced and read, as where opening failed.
 abbrev pub TellsDown : Exit → Type 0 → List Entry → Type 0
 TellsDown exit.Done unopened entries = any_down entries ≡ false
 TellsDown (exit.Disk count) unopened entries =
@@ -290,6 +304,8 @@ pub record LeavesRun (v : VolumeView) (lines : List Line) (n : Counts)
   pub world : (w : World) → ShowsWorld w v → IsLegal w entries
       × IfKept status entries
       (IfSome (live_of now) (λ m. HoldsFiles m last.table (world_after w entries)))
+  pub stops : (first : ℕ) (w : World) → ShowsWorld w v → IsSurvived first w [] v
+      → Survives first w entries now
   pub written : WritesAll status (Appended held held_now (printed entries))
   pub front : AppendedFront held held_now (printed entries)
   pub down : TellsDown status ⊥ entries
@@ -299,10 +315,10 @@ pub record LeavesRun (v : VolumeView) (lines : List Line) (n : Counts)
 pub record Serves (left left_now : Option (List ℕ)) (old new : Seen) (n : Counts)
     (held held_now : Option (List ℕ)) (status : Exit) (entries : List Entry) : Type 0 where
   pub history : IsHistory old new status entries
-  pub calls : HasCalls status (OnlyReads 3 old new) left entries
+  pub calls : HasCalls status (SyncThenReads 3 old new) left entries
   pub spared : Spares status old new
   pub input : TakesScript status left left_now
-  pub down : TellsDown status (OnlyReads 3 old new) entries
+  pub down : TellsDown status (SyncThenReads 3 old new) entries
   pub written : WritesAll status (Appended held held_now (printed entries))
   pub front : AppendedFront held held_now (printed entries)
   pub cause : ExecCause left (live_of old) n status

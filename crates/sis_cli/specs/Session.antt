@@ -1,5 +1,5 @@
 -- What a volume shows of a world, and what a session does to both.
-use Rattle.std.specs.Prelude.{◌≡◌, ℕ, ◌≤◌, Bool, true, false, List, [], ◌∷◌, length, map, None, IfSome, ⊤, is_some, Some}
+use Rattle.std.specs.Prelude.{◌≡◌, ℕ, ◌≤◌, Bool, true, false, List, [], ◌∷◌, length, map, None, IfSome, ⊤, is_some}
 use Rattle.std.specs.Option.{option_map}
 use Rattle.std.specs.FinMap as map
 use Rattle.sis_disk.specs.Record.{Rose}
@@ -11,15 +11,13 @@ use Rattle.sis_model.specs.Order.{line_of}
 use Rattle.sis_model.specs.declared.command.Command.{Command}
 use Rattle.sis_model.specs.declared.command.Command.TheVariants as command
 use Rattle.sis_model.specs.declared.reply.Reply.{Reply}
-use Rattle.sis_model.specs.declared.reply.Reply.TheVariants as reply
-use Rattle.sis_model.specs.declared.reply.Hindrance.TheVariants as hindrance
 use Rattle.sis_model.specs.declared.history.Entry.{Entry}
 use Rattle.sis_model.specs.declared.history.Line.{Line}
 use Rattle.sis_script.specs.Script.{IsBuilt}
 use Rattle.sis_table.specs.Volume.{node_named, ids_of}
 use Rattle.sis_table.specs.Content.{files_in}
 use Rattle.sis_volume.specs.View.{VolumeView}
-use Rattle.sis_cli.specs.Stages.{Fits, Changes, IsRun, is_down, any_down, Stage, GoesDown}
+use Rattle.sis_cli.specs.Stages.{Fits, Changes, IsRun, is_down, any_down, Stage, GoesDown, commits}
 
 -- The volume's names and sizes are those of the world's files, and where its disk tells its bytes,
 -- it stands for the files. Nothing is open.
@@ -49,8 +47,8 @@ pub record Decides (old new : VolumeView) (client : ℕ) (c : Command) (r : Repl
   pub changes : Changes old.table c r new.table
   pub down : GoesDown old.down new.down (stage_of old) c r (stage_of new)
   pub elapses : Elapses old.seen new.seen
-  -- what was done before an end is durable, unless a commit failed
-  pub settled : c ≡ command.End → new.down ≡ None → new.is_changed ≡ false
+  -- what was done before a sync or an end is durable, unless a commit failed
+  pub settled : commits c ≡ true → new.down ≡ None → new.is_changed ≡ false
 
 -- The same of a command that only tells what there is.
 pub record Tells (v : VolumeView) (client : ℕ) (c : Command) (r : Reply) : Type 0 where

@@ -1,6 +1,6 @@
 -- How the files are kept from one step of a run to the next, and what a reply says of the table
 -- before its step.
-use Rattle.std.specs.Prelude.{◌≡◌, ℕ, ◌+◌, ◌<◌, ◌≤◌, Bool, true, false, if◌then◌else◌, nat_lt, List, [], ◌∷◌, ◌++◌, length, Option, None, Some, ⊤}
+use Rattle.std.specs.Prelude.{◌≡◌, ◌⊎◌, ℕ, ◌+◌, ◌<◌, ◌≤◌, Bool, true, false, if◌then◌else◌, nat_lt, List, [], ◌∷◌, ◌++◌, length, Option, None, Some, ⊤}
 use Rattle.std.specs.List.{list_any}
 use Rattle.sis_disk.specs.Layout.{data_blocks, table_cap}
 use Rattle.sis_disk.specs.Record.{Rose}
@@ -139,16 +139,28 @@ pub record Stage : Type 0 where
   pub calls : ℕ
   pub down : Option ℕ
 
--- Only an end's commit fails, by a fault of the disk in this step, as a call that wasn't made
--- before. From then on each command is answered so, and the disk isn't called.
+-- the commands that commit before they are answered
+abbrev pub commits : Command → Bool
+commits command.Sync = true
+commits command.End = true
+commits _ = false
+
+-- the commands that may commit
+abbrev pub may_commit : Command → Bool
+may_commit (command.Put name bytes) = true
+may_commit c = commits c
+
+-- Only such a command's commit fails, where nothing hinders it by numbers, and by a fault of the
+-- disk in this step, which is its last call, or was refused behind it. From then on each command is
+-- answered so, and the disk isn't called.
 abbrev pub GoesDown : Option ℕ → Option ℕ → Stage → Command → Reply → Stage → Type 0
 GoesDown (Some at) now s c r t =
     (r ≡ reply.Hindered (hindrance.Down at)) × (now ≡ Some at) × (t.calls ≡ s.calls)
     × (t.faults ≡ s.faults)
 GoesDown None None s c r t = is_down r ≡ false
 GoesDown None (Some at) s c r t =
-    (c ≡ command.End) × (r ≡ reply.Hindered (hindrance.Down at)) × Rose s.faults t.faults
-    × (s.calls ≤ at)
+    (may_commit c ≡ true) × (r ≡ reply.Hindered (hindrance.Down at)) × Rose s.faults t.faults
+    × IsUnhindered s.table c × (s.calls ≤ at) × ((t.calls ≡ at + 1) ⊎ (t.calls ≡ at))
 
 -- from one stage to the next by one entry
 pub record IsStep (s : Stage) (e : Entry) (t : Stage) : Type 0 where

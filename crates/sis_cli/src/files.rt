@@ -12,8 +12,9 @@ ghost use Rattle.sis_table.specs.Volume.{IsTable, blocks_of, used, has_name, gre
 ghost use Rattle.sis_table.specs.Content.{files_in};
 ghost use Rattle.sis_disk.specs.Record.{live_of};
 ghost use Rattle.sis_table.specs.declared.runs.Run.{Run as ARun};
-ghost use Rattle.sis_cli.specs.Making.{HindersMaking, StagesFile};
+ghost use Rattle.sis_cli.specs.Making.{HindersMaking, IsDownBy, StagesFile};
 ghost use Rattle.sis_cli.specs.Stages.{AddsFile, limit_of_new};
+ghost use Rattle.sis_cli.specs.Stops.{StopsWell};
 
 use sis_disk::Disk;
 use sis_model::Hindrance;
@@ -62,7 +63,8 @@ fn new_file(alloc: Global, id: u64, name: &Name, size: u64) -> Result<Txn, Hindr
     Ok(txn)
 }
 
-// Writes the bytes of a new file to free places, and gives the edits that make the file.
+// Writes the bytes of a new file to places that neither table maps, and gives the edits that make
+// the file. Where there are too few such places it commits first.
 fn stage_file<D: Disk>(
     volume: &mut Volume<D>,
     alloc: Global,
@@ -91,9 +93,10 @@ fn stage_file<D: Disk>(
     ensures table { volume.new.table ≡ volume.old.table }
     ensures files { files_in volume.new.table volume.new.seen
         ≡ files_in volume.old.table volume.old.seen }
-    ensures down { volume.new.down ≡ volume.old.down }
-    ensures is_changed { volume.new.is_changed ≡ volume.old.is_changed }
+    ensures up { OnOk result (volume.new.down ≡ None) }
+    ensures down { IfErr result (λ by. IsDownBy by volume.new.down) }
     ensures elapses { Elapses volume.old.seen volume.new.seen }
+    ensures stops { StopsWell volume.old volume.new }
 {
     let id = volume.next_id();
     volume.room(block_count(bytes.len()))?;
@@ -135,8 +138,10 @@ pub(crate) fn make_file<D: Disk>(
     ensures err { OnErr result (volume.new.table ≡ volume.old.table) }
     ensures err_files { OnErr result (files_in volume.new.table volume.new.seen
         ≡ files_in volume.old.table volume.old.seen) }
-    ensures down { volume.new.down ≡ None }
+    ensures up { OnOk result (volume.new.down ≡ None) }
+    ensures down { IfErr result (λ by. IsDownBy by volume.new.down) }
     ensures elapses { Elapses volume.old.seen volume.new.seen }
+    ensures stops { StopsWell volume.old volume.new }
 {
     let txn = stage_file(volume, alloc, name, bytes)?;
     volume.apply(&txn)

@@ -4,6 +4,7 @@
 mod exit;
 mod fault_line;
 mod files;
+mod laws;
 mod running;
 mod session;
 #[cfg(test)]
@@ -13,6 +14,7 @@ mod usage;
 mod words;
 
 pub use exit::{Exit, Outcome};
+pub use laws::stopped_image_opens_again;
 pub use top::run;
 pub use usage::{Plan, UsageFault, UsageKind, Verb};
 pub use words::plan;

@@ -4,6 +4,7 @@ ghost use Rattle.sis_model.specs.Order.{line_of, exec_order, end_of};
 ghost use Rattle.sis_model.specs.declared.reply.Reply.{Reply as AReply};
 ghost use Rattle.sis_script.specs.Script.{IsBuilt};
 ghost use Rattle.sis_cli.specs.Session.{Decides, MayRun, HasRun, entry_of};
+ghost use Rattle.sis_cli.specs.Stops.{IsCounted, IsDurable, StopsWell, SurvivesRun};
 
 use crate::session::answer;
 use sis_disk::Disk;
@@ -54,9 +55,12 @@ fn run_line<D: Disk>(volume: &mut Volume<D>, history: &mut History, alloc: Globa
     requires runs { MayRun line.command }
     ensures entry { (reply : AReply)
         × Decides volume.old volume.new line.client line.command reply
+        × IsDurable volume.new line.command reply
         × (history.new.entries ≡ history.old.entries
         ++ entry_of line reply volume.new.seen.calls ∷ []) }
     ensures spare { history.old.spare ≤ history.new.spare + 1 }
+    ensures stops { StopsWell volume.old volume.new }
+    ensures counted { IsCounted volume.new.seen }
 {
     let Line { client, command } = line;
     let reply = answer(volume, alloc, &command);
@@ -81,6 +85,8 @@ pub(crate) fn run_lines<D: Disk>(
     ensures order { IfOk result (λ history.
         map line_of history.entries ≡ exec_order lines.items) }
     ensures ran { IfOk result (λ history. HasRun volume.old volume.new history.entries) }
+    ensures stops { IfOk result (λ history.
+        SurvivesRun volume.old volume.new history.entries) }
     ensures err { OnErr result (volume.new ≡ volume.old) }
 {
     let mut order = in_reverse_order(alloc, lines)?;

@@ -6,6 +6,7 @@ ghost use Rattle.sis_model.specs.declared.command.Command.TheVariants as command
 ghost use Rattle.sis_table.specs.Volume.{node_named, names_after};
 ghost use Rattle.sis_cli.specs.Session.{Decides, Tells, MayRun};
 ghost use Rattle.sis_cli.specs.Stages.{limit_of_new};
+ghost use Rattle.sis_cli.specs.Stops.{IsDurable, StopsWell};
 
 use crate::files::make_file;
 use sis_disk::Disk;
@@ -38,8 +39,9 @@ fn new_file_limit<D: Disk>(volume: &Volume<D>) -> Option<LimitKind>
 
 fn put<D: Disk>(volume: &mut Volume<D>, alloc: Global, name: &Name, bytes: &Bytes) -> Reply
     requires { volume.old.down ≡ None }
-    ensures { (client : ℕ)
+    ensures decides { (client : ℕ)
         → Decides volume.old volume.new client (command.Put name.now bytes.now) result }
+    ensures stops { StopsWell volume.old volume.new }
 {
     if bytes.as_slice().len() > MOST_BYTES {
         return Reply::InvalidParameter;
@@ -130,7 +132,9 @@ fn space<D: Disk>(volume: &Volume<D>) -> Reply
 
 fn end<D: Disk>(volume: &mut Volume<D>, alloc: Global) -> Reply
     requires { volume.old.down ≡ None }
-    ensures { (client : ℕ) → Decides volume.old volume.new client command.End result }
+    ensures decides { (client : ℕ) → Decides volume.old volume.new client command.End result }
+    ensures stops { StopsWell volume.old volume.new }
+    ensures durable { IsDurable volume.new command.End result }
 {
     match volume.commit() {
         Ok(()) => Reply::Ended {
@@ -141,10 +145,24 @@ fn end<D: Disk>(volume: &mut Volume<D>, alloc: Global) -> Reply
     }
 }
 
+fn sync<D: Disk>(volume: &mut Volume<D>) -> Reply
+    requires { volume.old.down ≡ None }
+    ensures decides { (client : ℕ) → Decides volume.old volume.new client command.Sync result }
+    ensures stops { StopsWell volume.old volume.new }
+    ensures durable { IsDurable volume.new command.Sync result }
+{
+    if let Err(by) = volume.commit() {
+        return Reply::Hindered { by };
+    }
+    Reply::Done
+}
+
 /// Carries out a client's command. Once a commit failed, each command is answered so.
 pub(crate) fn answer<D: Disk>(volume: &mut Volume<D>, alloc: Global, command: &Command) -> Reply
     requires { MayRun command.now }
-    ensures { (client : ℕ) → Decides volume.old volume.new client command.now result }
+    ensures decides { (client : ℕ) → Decides volume.old volume.new client command.now result }
+    ensures stops { StopsWell volume.old volume.new }
+    ensures durable { IsDurable volume.new command.now result }
 {
     if let Some(at) = volume.down() {
         return Reply::Hindered {
@@ -156,6 +174,7 @@ pub(crate) fn answer<D: Disk>(volume: &mut Volume<D>, alloc: Global, command: &C
         Command::Stat { name } => stat(volume, name),
         Command::List { after } => list(volume, alloc, after.as_ref()),
         Command::Space => space(volume),
+        Command::Sync => sync(volume),
         Command::End => end(volume, alloc),
         _ => unreachable!(),
     }

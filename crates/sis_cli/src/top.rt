@@ -7,7 +7,7 @@ ghost use Rattle.sis_table.specs.Good.{IsGood};
 ghost use Rattle.sis_table.specs.Volume.{IsTable};
 ghost use Rattle.sis_script.specs.Printed.{printed};
 ghost use Rattle.sis_script.specs.Script.{IsBuilt};
-ghost use Rattle.sis_volume.specs.Opening.{OnlyReads};
+ghost use Rattle.sis_journal.specs.Opening.{SyncThenReads};
 ghost use Rattle.sis_cli.specs.Words.{texts, plan_of};
 ghost use Rattle.sis_cli.specs.Run.{IfExec, IfFormat, ExitCause, IsAccepted, HasCalls, IsHistory};
 ghost use Rattle.sis_cli.specs.Run.{IsFormatted, CauseOfEnd, LeavesRun, Serves, Formats};
@@ -171,13 +171,16 @@ pub fn run<D: Disk, S: Source, K: Sink, G: Guids>(
     guids: G,
 ) -> Outcome<D>
     // A script's answers are those of one legal history of separate files, which the image holds at
-    // the start and at the end; each hindrance has its cause in the table before it.
+    // the start and at the end; each hindrance has its cause in the table before it. A stop at any
+    // call behind opening's first leaves an image that opens as the files after some first entries,
+    // among them each sync and end that was answered by then.
     ensures history { IfExec (plan_of (texts words.now)) (IsHistory (D.seen disk)
         (D.seen result.disk) result.status result.history.entries) ⊤ }
 
-    // It has the script's calls, each once, in order; or none, where the run ended before the first.
+    // It has the script's calls, each once, in order; or none, where the run ended before the
+    // first.
     ensures calls { IfExec (plan_of (texts words.now)) (HasCalls result.status
-        (OnlyReads 3 (D.seen disk) (D.seen result.disk)) (S.left input.old)
+        (SyncThenReads 3 (D.seen disk) (D.seen result.disk)) (S.left input.old)
         result.history.entries) (result.history.entries ≡ []) }
 
     // What was refused leaves the disk as it was, and nothing else takes of the input.
@@ -190,7 +193,7 @@ pub fn run<D: Disk, S: Source, K: Sink, G: Guids>(
 
     // `Done` comes only where no commit failed, and `Disk` after the lines only where one did.
     ensures down { IfExec (plan_of (texts words.now)) (TellsDown result.status
-        (OnlyReads 3 (D.seen disk) (D.seen result.disk)) result.history.entries) ⊤ }
+        (SyncThenReads 3 (D.seen disk) (D.seen result.disk)) result.history.entries) ⊤ }
 
     // The bytes written are the printed history, or a front of it where the sink or memory failed.
     ensures written { WritesAll result.status

@@ -1,68 +1,21 @@
-//! `run` over a disk, a source and a sink in memory: what it prints, what it leaves, how it ends.
+//! What `run` prints, what it leaves, how it ends.
 //!
 //! The values were worked out by hand from docs/COMMANDS.md and docs/FORMAT.md.
-use sis_cli::{Exit, UsageKind, run};
-use sis_disk::{CounterGuids, GoodKind, ImageKind, Memory, MemorySink, MemorySource, TableKind};
+use crate::serving::{Given, NO_FILES, exec, format, image_with, serve};
+use sis_cli::{Exit, UsageKind};
+use sis_disk::{GoodKind, ImageKind, TableKind};
 use sis_script::{LineKind, ScriptLimit};
 use std::alloc::{AllocError, Global};
 use std::test::Fail;
 
-const EXEC: &[&str] = &["exec", "i"];
-
-const FORMAT: &[&str] = &["format", "i", "16", "2", "C"];
-
 /// The end of a client whose files are in the image.
 const END: &str = "1 end 00000000 0";
-
-/// The first bytes of an image of 16 blocks, area 2, log 0, letter C.
-const SUPERBLOCK: &[u8] = b"SISIMAGE\x01\0\0\0C\0\0\0\x10\0\0\0\0\0\0\0\x02\0\0\0\0\0\0\0";
-
-/// An area's first bytes where there are no files: the table's length, 20, and the next id.
-const NO_FILES: &[u8] = b"\x14\0\0\0\0\0\0\0\x01\0\0\0\0\0\0\0";
-
-/// The bytes that a disk keeps of its calls, and a sink of what is written.
-const ROOM: u64 = 1_000_000;
-
-/// What a run is given.
-#[derive(Clone, Copy)]
-struct Given<'a> {
-    words: &'a [&'a str],
-    /// The disk's bytes.
-    image: &'a [u8],
-    script: &'a str,
-    /// How many bytes of the script a read gives.
-    cut: usize,
-    /// The calls at which the disk fails.
-    disk: &'a [u64],
-    /// The reads that fail.
-    source: &'a [u64],
-    /// The writes that fail.
-    sink: &'a [u64],
-}
-
-/// What a run leaves.
-#[derive(Drop)]
-struct Left {
-    status: Exit,
-    entries: usize,
-    printed: String,
-    image: Vec<u8>,
-}
 
 /// Lines of a script, and those that its run prints.
 #[derive(Clone, Copy)]
 struct Row {
     script: &'static [&'static str],
     printed: &'static [&'static str],
-}
-
-// An image with these bytes in area A, which is selected. It has ten data blocks, from place 6 on.
-fn image_with(alloc: Global, area: &[u8]) -> Result<Vec<u8>, AllocError> {
-    let mut image = SUPERBLOCK.to_vec(alloc)?;
-    image.resize(8192, 0)?;
-    image.extend_from_slice(area)?;
-    image.resize(65_536, 0)?;
-    Ok(image)
 }
 
 // The same without files, and with another byte at one place.
@@ -89,54 +42,6 @@ fn put_of(alloc: Global, count: usize) -> Result<String, AllocError> {
     let mut line = String::from_str(alloc, r#"1 put "a" "#)?;
     line.push_str("61".repeat(alloc, count)?.as_str())?;
     Ok(line)
-}
-
-fn format<'a>(image: &'a [u8]) -> Given<'a> {
-    Given {
-        words: FORMAT,
-        ..exec(image, "")
-    }
-}
-
-fn exec<'a>(image: &'a [u8], script: &'a str) -> Given<'a> {
-    Given {
-        words: EXEC,
-        image,
-        script,
-        cut: 1000,
-        disk: &[],
-        source: &[],
-        sink: &[],
-    }
-}
-
-fn serve(alloc: Global, given: Given<'_>) -> Result<Left, AllocError> {
-    let disk = Memory::new(
-        alloc,
-        given.image.to_vec(alloc)?,
-        given.disk.to_vec(alloc)?,
-        ROOM,
-    )?;
-    let mut input = MemorySource::new(
-        given.script.as_bytes().to_vec(alloc)?,
-        given.cut.max(1),
-        given.source.to_vec(alloc)?,
-    );
-    let mut out = MemorySink::new(alloc, given.sink.to_vec(alloc)?, ROOM)?;
-    let outcome = run(
-        alloc,
-        given.words,
-        disk,
-        &mut input,
-        &mut out,
-        CounterGuids::new(1),
-    );
-    Ok(Left {
-        status: outcome.status,
-        entries: outcome.history.as_slice().len(),
-        printed: String::from_utf8_lossy(alloc, out.written())?,
-        image: outcome.disk.bytes().to_vec(alloc)?,
-    })
 }
 
 #[test]
@@ -200,9 +105,14 @@ fn each_command_has_its_reply(rt: HostRuntime) -> Result<(), Fail> {
         let script = text(alloc, row.script)?;
         let printed = text(alloc, row.printed)?;
         let left = serve(alloc, exec(&image, script.as_str()))?;
-        assert_eq!(rt; left.status, Exit::Done, "{}", script);
+        assert_eq!(rt; left.outcome.status, Exit::Done, "{}", script);
         assert_eq!(rt; left.printed.as_str(), printed.as_str(), "{}", script);
-        assert_eq!(rt; left.entries, row.printed.len(), "{}", script);
+        assert_eq!(rt;
+            left.outcome.history.as_slice().len(),
+            row.printed.len(),
+            "{}",
+            script
+        );
     }
     Ok(())
 }
@@ -218,7 +128,7 @@ fn a_put_has_at_most_65536_bytes_and_the_free_blocks(rt: HostRuntime) -> Result<
         (65_537, "1 put C000000D\n1 end 00000000 0\n"),
     ] {
         let left = serve(alloc, exec(&image, put_of(alloc, count)?.as_str()))?;
-        assert_eq!(rt; left.status, Exit::Done, "{count}");
+        assert_eq!(rt; left.outcome.status, Exit::Done, "{count}");
         assert_eq!(rt; left.printed.as_str(), printed, "{count}");
     }
     Ok(())
@@ -234,7 +144,7 @@ fn a_script_may_come_byte_by_byte(rt: HostRuntime) -> Result<(), Fail> {
         ..exec(&image, script)
     };
     let left = serve(alloc, given)?;
-    assert_eq!(rt; left.status, Exit::Done);
+    assert_eq!(rt; left.outcome.status, Exit::Done);
     assert_eq!(rt;
         left.printed.as_str(),
         "1 put 00000000\n1 list 00000000 \"a\"\n1 end 00000000 0\n"
@@ -253,7 +163,7 @@ fn a_table_that_is_full_takes_no_file(rt: HostRuntime) -> Result<(), Fail> {
             ..exec(&zeros, "")
         },
     )?;
-    assert_eq!(rt; formatted.status, Exit::Done);
+    assert_eq!(rt; formatted.outcome.status, Exit::Done);
     // Each table of a file more is longer by 31 bytes and two for each of the name's 255 units.
     let letters = "a".repeat(alloc, 254)?;
     let mut script = String::new(alloc);
@@ -265,8 +175,8 @@ fn a_table_that_is_full_takes_no_file(rt: HostRuntime) -> Result<(), Fail> {
     }
     let mut printed = "1 put 00000000\n".repeat(alloc, 7)?;
     printed.push_str("1 put C000007F table 4348 4088\n1 end 00000000 0\n")?;
-    let left = serve(alloc, exec(&formatted.image, script.as_str()))?;
-    assert_eq!(rt; left.status, Exit::Done);
+    let left = serve(alloc, exec(formatted.outcome.disk.bytes(), script.as_str()))?;
+    assert_eq!(rt; left.outcome.status, Exit::Done);
     assert_eq!(rt; left.printed.as_str(), printed.as_str());
     Ok(())
 }
@@ -277,7 +187,7 @@ fn the_greatest_next_id_leaves_no_id_for_a_file(rt: HostRuntime) -> Result<(), F
     let area = b"\x14\0\0\0\0\0\0\0\xff\xff\xff\xff\xff\xff\xff\x7f";
     let image = image_with(alloc, area.as_slice())?;
     let left = serve(alloc, exec(&image, "1 put \"a\" -\n1 list\n"))?;
-    assert_eq!(rt; left.status, Exit::Done);
+    assert_eq!(rt; left.outcome.status, Exit::Done);
     assert_eq!(rt;
         left.printed.as_str(),
         "1 put C000007F limit ids\n1 list 00000000\n1 end 00000000 0\n"
@@ -300,7 +210,7 @@ fn a_list_has_a_hundred_names(rt: HostRuntime) -> Result<(), Fail> {
     printed.push_str(names.as_str())?;
     script.push_str("1 list\n")?;
     let hundred = serve(alloc, exec(&image, script.as_str()))?;
-    assert_eq!(rt; hundred.status, Exit::Done);
+    assert_eq!(rt; hundred.outcome.status, Exit::Done);
     assert_eq!(rt;
         hundred.printed.as_str(),
         format!(in alloc; "{printed}\n1 end 00000000 0\n")?.as_str()
@@ -308,11 +218,11 @@ fn a_list_has_a_hundred_names(rt: HostRuntime) -> Result<(), Fail> {
     let one_more = serve(
         alloc,
         exec(
-            &hundred.image,
+            hundred.outcome.disk.bytes(),
             "1 put \"n101\" -\n1 list\n1 list \"n100\"\n1 list \"n101\"\n",
         ),
     )?;
-    assert_eq!(rt; one_more.status, Exit::Done);
+    assert_eq!(rt; one_more.outcome.status, Exit::Done);
     let rest = "1 list 00000000 \"n101\"\n1 list 00000000\n1 end 00000000 0\n";
     assert_eq!(rt;
         one_more.printed.as_str(),
@@ -326,13 +236,16 @@ fn a_later_run_finds_the_files(rt: HostRuntime) -> Result<(), Fail> {
     let alloc = rt.alloc();
     let zeros = vec![in alloc; 0; 65_536]?;
     let formatted = serve(alloc, format(&zeros))?;
-    assert_eq!(rt; formatted.status, Exit::Done);
+    assert_eq!(rt; formatted.outcome.status, Exit::Done);
     assert_eq!(rt;
-        formatted.image.as_slice(),
+        formatted.outcome.disk.bytes(),
         image_with(alloc, NO_FILES)?.as_slice()
     );
-    let first = serve(alloc, exec(&formatted.image, r#"1 put "a" 616263"#))?;
-    assert_eq!(rt; first.status, Exit::Done);
+    let first = serve(
+        alloc,
+        exec(formatted.outcome.disk.bytes(), r#"1 put "a" 616263"#),
+    )?;
+    assert_eq!(rt; first.outcome.status, Exit::Done);
     assert_eq!(rt;
         first.printed.as_str(),
         "1 put 00000000\n1 end 00000000 0\n"
@@ -343,13 +256,16 @@ fn a_later_run_finds_the_files(rt: HostRuntime) -> Result<(), Fail> {
         \x02\0\0\0\0\0\0\0\0\0\0\0\0\0\0\0\x01\0\0\0\
         \x01\0\0\0\0\0\0\0\x01\0a\0\0\x03\0\0\0\0\0\0\0\x01\0\0\0\0\0\0\0\
         \x01\0\0\0\0\0\0\0\0\0\0\0\x01\0\0\0\0\0\0\0\x06\0\0\0\0\0\0\0";
-    assert_eq!(rt; first.image.get(8192..8192 + 85), Some(area.as_slice()));
-    assert_eq!(rt;
-        first.image.get(24_576..24_581),
-        Some(b"abc\0\0".as_slice())
-    );
-    let second = serve(alloc, exec(&first.image, "1 list\n1 stat \"a\"\n1 space"))?;
-    assert_eq!(rt; second.status, Exit::Done);
+    // The table goes to area B, which the selector names then.
+    let image = first.outcome.disk.bytes();
+    assert_eq!(rt; image.get(4096), Some(&1));
+    assert_eq!(rt; image.get(16_384..16_384 + 85), Some(area.as_slice()));
+    assert_eq!(rt; image.get(24_576..24_581), Some(b"abc\0\0".as_slice()));
+    let second = serve(
+        alloc,
+        exec(first.outcome.disk.bytes(), "1 list\n1 stat \"a\"\n1 space"),
+    )?;
+    assert_eq!(rt; second.outcome.status, Exit::Done);
     assert_eq!(rt;
         second.printed.as_str(),
         "1 list 00000000 \"a\"\n1 stat 00000000 3\n1 space 00000000 1 10\n1 end 00000000 0\n"
@@ -425,10 +341,10 @@ fn what_is_refused_changes_nothing(rt: HostRuntime) -> Result<(), Fail> {
             script(2, LineKind::Fields),
         ),
         (
-            exec(&new, "1 put \"a\" 61\n1 sync"),
+            exec(&new, "1 put \"a\" 61\n1 grovel"),
             script(2, LineKind::Verb),
         ),
-        (exec(&new, "1 sync"), script(1, LineKind::Verb)),
+        (exec(&new, "1 grovel"), script(1, LineKind::Verb)),
         (exec(&new, "2 list"), script(1, LineKind::Client)),
         (
             exec(&new, too_many_lines.as_str()),
@@ -480,10 +396,15 @@ fn what_is_refused_changes_nothing(rt: HostRuntime) -> Result<(), Fail> {
     ];
     for (given, status) in rows {
         let left = serve(alloc, given)?;
-        assert_eq!(rt; left.status, status, "{:?} {:?}", given.words, given.script);
+        assert_eq!(rt;
+            left.outcome.status,
+            status,
+            "{:?} {:?}",
+            given.words, given.script
+        );
         assert_eq!(rt; left.printed.as_str(), "", "{status:?}");
-        assert_eq!(rt; left.entries, 0, "{status:?}");
-        assert!(rt; left.image.as_slice() == given.image, "{status:?}");
+        assert_eq!(rt; left.outcome.history.as_slice().len(), 0, "{status:?}");
+        assert!(rt; left.outcome.disk.bytes() == given.image, "{status:?}");
     }
     Ok(())
 }
@@ -510,7 +431,7 @@ fn the_first_wrong_field_of_an_image_is_named(rt: HostRuntime) -> Result<(), Fai
         (4096, 1, 16_392, ImageKind::Table(TableKind::Short)),
     ] {
         let left = serve(alloc, exec(&image_but(alloc, place, byte)?, "1 list"))?;
-        assert_eq!(rt; left.status, image(at, kind), "{place}");
+        assert_eq!(rt; left.outcome.status, image(at, kind), "{place}");
     }
     Ok(())
 }
@@ -520,27 +441,38 @@ fn faults_are_answered_where_they_come(rt: HostRuntime) -> Result<(), Fail> {
     let alloc = rt.alloc();
     let new = image_with(alloc, NO_FILES)?;
     let put = exec(&new, "1 put \"a\" 616263");
-    // The disk's calls: three reads in opening, the file's block, the area, the sync.
+    // The disk's calls: in opening a sync and three reads, the file's block, and in the commit the
+    // area, a sync, the selector, a sync.
     let rows = [
         (
-            Given { disk: &[3], ..put },
+            Given { disk: &[4], ..put },
             Exit::Done,
             "1 put C0000185 disk\n1 end 00000000 0\n",
-        ),
-        (
-            Given { disk: &[4], ..put },
-            Exit::Disk { count: 1 },
-            "1 put 00000000\n1 end C0000185 down 4\n",
         ),
         (
             Given { disk: &[5], ..put },
             Exit::Disk { count: 1 },
             "1 put 00000000\n1 end C0000185 down 5\n",
         ),
+        (
+            Given { disk: &[6], ..put },
+            Exit::Disk { count: 1 },
+            "1 put 00000000\n1 end C0000185 down 6\n",
+        ),
+        (
+            Given { disk: &[7], ..put },
+            Exit::Disk { count: 1 },
+            "1 put 00000000\n1 end C0000185 down 7\n",
+        ),
+        (
+            Given { disk: &[8], ..put },
+            Exit::Disk { count: 1 },
+            "1 put 00000000\n1 end C0000185 down 8\n",
+        ),
         // Nothing was edited, so nothing is written.
         (
             Given {
-                disk: &[3],
+                disk: &[4],
                 ..exec(&new, "1 list")
             },
             Exit::Done,
@@ -550,7 +482,7 @@ fn faults_are_answered_where_they_come(rt: HostRuntime) -> Result<(), Fail> {
         (Given { sink: &[1], ..put }, Exit::Sink, "1 put 00000000\n"),
         (
             Given {
-                disk: &[4],
+                disk: &[5],
                 sink: &[0],
                 ..put
             },
@@ -569,7 +501,12 @@ fn faults_are_answered_where_they_come(rt: HostRuntime) -> Result<(), Fail> {
     ];
     for (given, status, printed) in rows {
         let left = serve(alloc, given)?;
-        assert_eq!(rt; left.status, status, "{:?} {:?}", given.disk, given.sink);
+        assert_eq!(rt;
+            left.outcome.status,
+            status,
+            "{:?} {:?}",
+            given.disk, given.sink
+        );
         assert_eq!(rt;
             left.printed.as_str(),
             printed,

@@ -1,27 +1,40 @@
 use Rattle.sis_cli.proofs.Added.{may_put}
 use Rattle.sis_cli.proofs.Makes.{files_made, file_made, hinders_made, within_limits}
+use Rattle.sis_cli.proofs.Stopping.{stops_applied}
 use Rattle.sis_cli.proofs.files.make_file.Goals as goal
 
 pub apply-requires : goal.apply-requires
-apply-requires g c = let st = c.in_ok-txn.ensures.staged in may_put _ _ _ _ _ _ st.0 c.in_ok-txn.ensures.table st.1
+apply-requires g c = let st = c.in_ok-txn.ensures.staged in
+    may_put _ _ _ _ _ _ st.0 c.in_ok-txn.ensures.table st.1
 
 pub returns-clause-files : goal.returns-clause-files
 returns-clause-files g c =
     let st = c.in_ok-txn.ensures.staged in
-    files_made c.apply.result c.args.volume.now c.stage_file.new.volume c.apply.new.self c.args.name.now c.args.bytes.now c.in_ok-txn.txn.edits st.0 c.in_ok-txn.ensures.table c.in_ok-txn.ensures.files st.1 c.apply.ensures.ok
+    files_made c.apply.result c.args.volume.now c.stage_file.new.volume c.apply.new.self
+    c.args.name.now c.args.bytes.now c.in_ok-txn.txn.edits st.0 c.in_ok-txn.ensures.table
+    c.in_ok-txn.ensures.files st.1 c.apply.ensures.ok
 
 pub returns-clause-made : goal.returns-clause-made
 returns-clause-made g c =
     let st = c.in_ok-txn.ensures.staged in
-    file_made c.apply.result c.args.volume.now c.stage_file.new.volume c.apply.new.self c.args.name.now c.args.bytes.now c.in_ok-txn.txn.edits st.0 c.in_ok-txn.ensures.table st.1 c.apply.ensures.ok
+    file_made c.apply.result c.args.volume.now c.stage_file.new.volume c.apply.new.self
+    c.args.name.now c.args.bytes.now c.in_ok-txn.txn.edits st.0 c.in_ok-txn.ensures.table st.1
+    c.apply.ensures.ok
 
 pub returns-clause-cause : goal.returns-clause-cause
 returns-clause-cause g c =
     let st = c.in_ok-txn.ensures.staged in
-    hinders_made c.apply.result c.args.volume.now c.stage_file.new.volume c.apply.new.self c.args.name.now c.args.bytes.now c.in_ok-txn.txn.edits st.0 c.in_ok-txn.ensures.table st.1 c.apply.ensures.cause
+    hinders_made c.apply.result c.args.volume.now c.stage_file.new.volume c.apply.new.self
+    c.args.name.now c.args.bytes.now c.in_ok-txn.txn.edits st.0 c.in_ok-txn.ensures.table st.1
+    c.apply.ensures.cause
 
 pub stage_file-requires-clause-ids : goal.stage_file-requires-clause-ids
 stage_file-requires-clause-ids g c = (within_limits c.args.volume.now.table c.requires.limit).0
 
 pub stage_file-requires-clause-nodes : goal.stage_file-requires-clause-nodes
 stage_file-requires-clause-nodes g c = (within_limits c.args.volume.now.table c.requires.limit).1
+
+pub returns-clause-stops : goal.returns-clause-stops
+returns-clause-stops g c =
+    stops_applied c.apply.result c.args.volume.now c.stage_file.new.volume c.apply.new.self _ _ _
+    c.apply.ensures.ok c.apply.ensures.err c.stage_file.ensures.stops

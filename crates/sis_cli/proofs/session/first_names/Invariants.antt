@@ -6,7 +6,9 @@ use Rattle.sis_cli.proofs.session.first_names.Given as goal
 
 -- of all names the first were taken, and the next file is known
 abbrev pub invariant-loop-next : goal.invariant-loop-next
-invariant-loop-next g l = Listing l.fn.volume.table (names_after l.fn.volume.table (option_copied l.fn.after)) l.names l.next
+invariant-loop-next g l =
+    Listing l.fn.volume.table (names_after l.fn.volume.table (option_copied l.fn.after)) l.names
+    l.next
 
 abbrev pub decreases-loop-next : goal.decreases-loop-next
 decreases-loop-next g l = 100 - length l.names

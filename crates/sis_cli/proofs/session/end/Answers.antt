@@ -1,0 +1,12 @@
+use Rattle.sis_cli.proofs.Stopping.{stops_tried}
+use Rattle.sis_cli.proofs.session.end.Goals as goal
+
+pub returns-in-Ok-clause-stops : goal.returns-in-Ok-clause-stops
+returns-in-Ok-clause-stops g c =
+    stops_tried c.commit.result c.args.volume.now c.commit.new.self c.requires
+    c.commit.ensures.images c.commit.ensures.files c.commit.ensures.ok c.commit.ensures.at
+
+pub returns-in-Err-clause-stops : goal.returns-in-Err-clause-stops
+returns-in-Err-clause-stops g c =
+    stops_tried c.commit.result c.args.volume.now c.commit.new.self c.requires
+    c.commit.ensures.images c.commit.ensures.files c.commit.ensures.ok c.commit.ensures.at
