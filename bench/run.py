@@ -1,9 +1,14 @@
 #!/usr/bin/env python3
-"""Measures the time of one `put` and one `stat` of a built `sis` at several numbers of files.
+"""Measures a built `sis` at several numbers of files: times, and what a durable `put` costs.
 
-The image has 65,536 blocks and areas of 1,024. A time is the difference of two runs on the same
-image, one with many commands and one with one, divided by the commands more. So starting, opening
-and committing are taken out. Each run is repeated, and the least time of each is taken.
+The image has 65,536 blocks and areas of 1,024. The time of one `put` or `stat` is the difference of
+two runs on the same image, one with many commands and one with one, divided by the commands more.
+So starting, opening and committing are taken out. Each run is repeated, and the least time of each
+is taken.
+
+A durable `put` is a `put` and a `sync`. Its disk calls and the bytes that they write are the
+difference of two runs too, one with both lines and one with a line that only tells. They are
+counted by `strace`, and where that can't be run, computed from the length of the committed table.
 """
 
 import argparse
@@ -11,6 +16,7 @@ import datetime
 import os
 import platform
 import random
+import re
 import subprocess
 import sys
 import tempfile
@@ -25,6 +31,10 @@ AREA_BLOCKS = 1024
 FRONT_LEN = BLOCK_LEN * (2 + 2 * AREA_BLOCKS)
 MOST_LINES = 4096
 SIZES = (100, 1000, 10000)
+# The numbers of files before a durable `put`.
+DURABLE_SIZES = (10, 1000, 10000)
+# The system calls that read, write and sync an image file.
+TRACED = "trace=/^pread,/^pwrite,/^f(data)?sync$"
 
 
 def put(name):
@@ -37,6 +47,10 @@ def stat(name):
     return f'1 stat "{name}"\n'
 
 
+SPACE = "1 space\n"
+SYNC = "1 sync\n"
+
+
 class Volume:
     """An image file, and the program that is run on it."""
 
@@ -46,10 +60,10 @@ class Volume:
         words = [program, "format", image, str(TOTAL_BLOCKS), str(AREA_BLOCKS), "C"]
         subprocess.run(words, check=True, stdin=subprocess.DEVNULL)
 
-    def exec(self, lines):
+    def exec(self, lines, tracer=()):
         """Runs a script, sees that each command was done, and returns the seconds that it took."""
         script = "".join(lines).encode()
-        words = [self.program, "exec", self.image]
+        words = [*tracer, self.program, "exec", self.image]
         start = time.perf_counter()
         ran = subprocess.run(words, input=script, stdout=subprocess.PIPE, check=True)
         seconds = time.perf_counter() - start
@@ -70,6 +84,30 @@ class Volume:
             file.flush()
             os.fsync(file.fileno())
 
+    def fill(self, names, there, size):
+        """Makes the next files until there are so many."""
+        while there < size:
+            count = min(MOST_LINES, size - there)
+            self.exec([put(name) for name in names[there : there + count]])
+            there += count
+
+    def table_len(self):
+        """The length of the table that is committed."""
+        with open(self.image, "rb") as file:
+            file.seek(BLOCK_LEN)
+            second = file.read(1) == b"\x01"
+            file.seek(BLOCK_LEN * (2 + (AREA_BLOCKS if second else 0)))
+            return int.from_bytes(file.read(8), "little")
+
+    def traced(self, lines):
+        """The disk calls of a script and the bytes that they write; none without `strace`."""
+        trace = self.image + ".trace"
+        try:
+            self.exec(lines, ["strace", "-f", "-y", "-e", TRACED, "-o", trace])
+            return disk_calls(Path(trace).read_text(), os.path.realpath(self.image))
+        except (OSError, subprocess.CalledProcessError):
+            return None
+
     def seconds_each(self, lines, repeats):
         """The seconds of one of these commands on the image as it stands, which is kept."""
         front = self.front()
@@ -82,22 +120,65 @@ class Volume:
         return (least[len(lines)] - least[1]) / (len(lines) - 1)
 
 
+def disk_calls(trace, image):
+    """How often a trace has each call on the image, and how many bytes were written."""
+    done = re.findall(r"(\w+)\(\d+<" + re.escape(image) + r">.*\) += (\d+)", trace)
+    writes = [int(count) for name, count in done if name.startswith("pwrite")]
+    return {
+        "reads": sum(name.startswith("pread") for name, _ in done),
+        "writes": len(writes),
+        "syncs": sum(name.endswith("sync") for name, _ in done),
+        "bytes": sum(writes),
+    }
+
+
+def draw_names(draw, count):
+    """Names in no order of their own, the same ones in each run of the bench."""
+    return [f"f{number:07}" for number in draw.sample(range(10**7), count)]
+
+
 def measure(volume, puts, stats, repeats):
     """A row for each number of files: the number, the seconds of a `put`, those of a `stat`."""
-    # Names in no order of their own, the same ones in each run.
     draw = random.Random(1)
-    names = [f"f{number:07}" for number in draw.sample(range(10**7), SIZES[-1] + puts)]
+    names = draw_names(draw, SIZES[-1] + puts)
     rows = []
     there = 0
     for size in SIZES:
-        while there < size:
-            count = min(MOST_LINES, size - there)
-            volume.exec([put(name) for name in names[there : there + count]])
-            there += count
+        volume.fill(names, there, size)
+        there = size
         asked = draw.choices(names[:there], k=stats)
         each_put = volume.seconds_each([put(name) for name in names[there : there + puts]], repeats)
         each_stat = volume.seconds_each([stat(name) for name in asked], repeats)
         rows.append((size, each_put, each_stat))
+    return rows
+
+
+def computed(table_len):
+    """The calls of a durable `put` by the rule: block, area, sync, selector, sync."""
+    written = BLOCK_LEN + 8 + table_len + 1
+    return {"reads": 0, "writes": 3, "syncs": 2, "bytes": written}
+
+
+def durable_put(volume, name):
+    """The calls of one `put` and its `sync`, and whether they were counted."""
+    opened = volume.traced([SPACE])
+    whole = volume.traced([put(name), SYNC])
+    if opened is None or whole is None or not opened["reads"]:
+        volume.exec([put(name), SYNC])
+        return computed(volume.table_len()), False
+    return {key: whole[key] - opened[key] for key in whole}, True
+
+
+def measure_durable(volume):
+    """A row for each number of files: the number, the table's length after it, calls, counted."""
+    names = draw_names(random.Random(1), DURABLE_SIZES[-1] + 1)
+    rows = []
+    there = 0
+    for size in DURABLE_SIZES:
+        volume.fill(names, there, size)
+        calls, counted = durable_put(volume, names[size])
+        there = size + 1
+        rows.append((size, volume.table_len(), calls, counted))
     return rows
 
 
@@ -122,8 +203,23 @@ def processor():
     return platform.processor() or platform.machine()
 
 
-def report(rows, args):
-    """The table and the machine, as text."""
+def durable_report(rows):
+    """The table of durable puts, as text."""
+    lines = [
+        "| Files | Table, bytes | Reads | Writes | Syncs | Bytes written |",
+        "|---|---|---|---|---|---|",
+    ]
+    for size, table_len, calls, _ in rows:
+        lines.append(
+            f"| {size:,} | {table_len:,} | {calls['reads']} | {calls['writes']} "
+            f"| {calls['syncs']} | {calls['bytes']:,} |"
+        )
+    how = "counted by strace" if all(row[3] for row in rows) else "computed"
+    return [f"One `put` of one byte and a `sync`, {how}:", "", *lines, ""]
+
+
+def report(rows, durable, args):
+    """The tables and the machine, as text."""
     _, least_put, least_stat = rows[0]
     lines = [
         f"# {datetime.date.today()}",
@@ -140,8 +236,8 @@ def report(rows, args):
             f"| {size:,} | {micros(each_put)} | {ratio(each_put, least_put)} "
             f"| {micros(each_stat)} | {ratio(each_stat, least_stat)} |"
         )
+    lines += ["", *durable_report(durable)]
     lines += [
-        "",
         f"Processor: {processor()}, {os.cpu_count()} of them seen.",
         f"System: {platform.system()} {platform.release()}. Python {platform.python_version()}.",
     ]
@@ -177,8 +273,10 @@ def main():
     if not os.access(program, os.X_OK):
         sys.exit(f"run.py: {program} is no program: build sis first, or give the path of one")
     with tempfile.TemporaryDirectory(dir=args.folder) as folder:
+        durable = measure_durable(Volume(program, os.path.join(folder, "durable.img")))
+        os.remove(os.path.join(folder, "durable.img"))
         volume = Volume(program, os.path.join(folder, "bench.img"))
-        text = report(measure(volume, args.puts, args.stats, args.repeats), args)
+        text = report(measure(volume, args.puts, args.stats, args.repeats), durable, args)
     print(text, end="")
     if args.write:
         path = TOP / "bench/results" / f"{datetime.date.today()}.md"
