@@ -1,3 +1,4 @@
+pub mod Files
 pub mod Name
 pub mod Status
 pub mod Units
