@@ -2,7 +2,7 @@
 use Rattle.std.proofs.Common.{◌≡◌, ℕ, List, [], ◌++◌, Option, Some, None, refl, ap, sym, ◌∙◌, append_assoc, append-nil}
 use Rattle.sis_disk.specs.Streams.{Appended, AppendedFront}
 
-pub Appended-none : (held : Option (List ℕ)) → Appended held held []
+pub Appended-none : (before : Option (List ℕ)) → Appended before before []
 Appended-none None = tt
 Appended-none (Some old) = sym (append-nil old)
 
@@ -15,8 +15,8 @@ Appended-more (Some a) (Some b) None xs ys f g = g
 Appended-more (Some a) (Some b) (Some c) xs ys f g = g ∙ ap (λ zs. zs ++ ys) f ∙ append_assoc a xs ys
 
 -- nothing is a front of all
-pub AppendedFront-none : (held : Option (List ℕ)) (bytes : List ℕ) → AppendedFront held held bytes
-AppendedFront-none held bytes = ([], bytes, refl, Appended-none held)
+pub AppendedFront-none : (before : Option (List ℕ)) (bytes : List ℕ) → AppendedFront before before bytes
+AppendedFront-none before bytes = ([], bytes, refl, Appended-none before)
 
 -- what came first, and a front of what follows, are a front of all
 pub AppendedFront-more : (a b c : Option (List ℕ)) (xs ys all rest : List ℕ) → all ≡ xs ++ (ys ++ rest) → Appended a b xs → AppendedFront b c ys → AppendedFront a c all

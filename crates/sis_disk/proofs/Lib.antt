@@ -4,6 +4,7 @@ pub mod Areas
 pub mod Bytes
 pub mod Counts
 pub mod Firm
+pub mod GoesOn
 pub mod Images
 pub mod Laid
 pub mod LaidRanges

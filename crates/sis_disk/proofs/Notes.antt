@@ -2,7 +2,7 @@
 use Rattle.std.proofs.Common.{◌≡◌, ℕ, ◌+◌, ◌≤◌, List, [], ◌∷◌, ◌++◌, length, take, drop, ap, arith, length-drop}
 use Rattle.std.proofs.lemmas.List.{take_all, take-append-le, drop-append-le}
 use Rattle.sis_disk.specs.Record.{Call}
-use Rattle.sis_disk.specs.Kept.{all_taken, taken, calls_of, call_of}
+use Rattle.sis_disk.specs.Notes.{all_taken, taken, calls_of, call_of}
 use Rattle.sis_disk.specs.declared.log.Noted.{Noted}
 
 pub all_taken_push : (notes : List Noted) (n : Noted) → all_taken (notes ++ n ∷ []) ≡ all_taken notes + taken n

@@ -5,7 +5,7 @@ use Rattle.std.specs.List.{AllByRecursion}
 use Rattle.std.proofs.lemmas.List.FromFn.{get_or-map-range_with_len, length-map-range_with_len}
 use Rattle.sis_disk.specs.Record.{Call, Reads, Writes, Syncs, DiskRecord, State, IsImage, IsImageAfter, after, after_all, is_loose, live_bytes, state_at, with_call}
 use Rattle.sis_disk.specs.Memory.{MemoryView, Answers}
-use Rattle.sis_disk.specs.Picks.{loose_bits, picked, picked_from, settled_at, settled_by, settled_after}
+use Rattle.sis_disk.specs.Picks.{loose_bits, picked, picked_from, synced_at, synced_by, synced_after}
 use Rattle.sis_disk.specs.Replay.{Replayed, Fits, AllFit, replayed_after, unplayed}
 use Rattle.sis_disk.specs.declared.pick.Pick.{Pick}
 use Rattle.sis_disk.specs.declared.pick.Pick.TheVariants.{Old, New}
@@ -109,7 +109,7 @@ module _ (s : State) (old : List ℕ) (image : IsImage s old) where
 
 -- the bytes at the last sync are an image
 image_by : (c : Call) (s : State) (old : List ℕ) → Fits (length s.live) c → IsImage s old
-    → IsImage (after s c) (settled_by c s old)
+    → IsImage (after s c) (synced_by c s old)
 image_by (Reads at len ok) s old fits image = image
 image_by (Writes at bytes true) s old fits image = record {
   size = image.size ∙ sym (length-laid at bytes s.live fits);
@@ -123,14 +123,14 @@ image_by (Syncs true) s old fits image = record { size = refl; same = λ i lt fi
 image_by (Syncs false) s old fits image = image
 
 image_after : (s : State) (old : List ℕ) (cs : List Call) → AllByRecursion (Fits (length s.live)) cs
-    → IsImage s old → IsImage (after_all s cs) (settled_after old s cs)
+    → IsImage s old → IsImage (after_all s cs) (synced_after old s cs)
 image_after s old [] fit image = image
 image_after s old (c ∷ cs) fit image =
     let same : length (after s c).live ≡ length s.live = size_by c s fit.0 in
-    image_after (after s c) (settled_by c s old) cs (rw same fit.1) (image_by c s old fit.0 image)
+    image_after (after s c) (synced_by c s old) cs (rw same fit.1) (image_by c s old fit.0 image)
 
-settled_image : (r : DiskRecord) (k : ℕ) → AllFit r → IsImageAfter r k (settled_at r k)
-settled_image r k fit =
+synced_image : (r : DiskRecord) (k : ℕ) → AllFit r → IsImageAfter r k (synced_at r k)
+synced_image r k fit =
     image_after (record { live = r.opening; loose = [] }) r.opening (take k r.calls)
     (all-take _ k r.calls fit) (record { size = refl; same = λ i lt firm. refl })
 
@@ -138,22 +138,22 @@ settled_image r k fit =
 module _ (r : DiskRecord) (k : ℕ) (pick : Pick) (a : Replayed) (fit : AllFit r)
     (is : a ≡ replayed_after (unplayed r.opening) (take k r.calls)) where
   pub replay_picked :
-      picked_from pick 0 a.loose a.settled a.live ≡ picked pick (state_at r k) (settled_at r k)
-  replay_picked = let g = agrees_at r k fit in rw (is, g.loose, g.settled, g.live)
+      picked_from pick 0 a.loose a.synced a.live ≡ picked pick (state_at r k) (synced_at r k)
+  replay_picked = let g = agrees_at r k fit in rw (is, g.loose, g.synced, g.live)
 
-  pub replay_image : IsImageAfter r k (picked_from pick 0 a.loose a.settled a.live)
+  pub replay_image : IsImageAfter r k (picked_from pick 0 a.loose a.synced a.live)
   replay_image =
-      rw replay_picked (is_image (state_at r k) (settled_at r k) (settled_image r k fit) pick)
+      rw replay_picked (is_image (state_at r k) (synced_at r k) (synced_image r k fit) pick)
 
-  pub replay_old : pick ≡ Old → picked_from pick 0 a.loose a.settled a.live ≡ settled_at r k
+  pub replay_old : pick ≡ Old → picked_from pick 0 a.loose a.synced a.live ≡ synced_at r k
   replay_old old =
-      replay_picked ∙ ap (λ (p : Pick). picked p (state_at r k) (settled_at r k)) old
-      ∙ is_old (state_at r k) (settled_at r k) (settled_image r k fit)
+      replay_picked ∙ ap (λ (p : Pick). picked p (state_at r k) (synced_at r k)) old
+      ∙ is_old (state_at r k) (synced_at r k) (synced_image r k fit)
 
-  pub replay_new : pick ≡ New → picked_from pick 0 a.loose a.settled a.live ≡ (state_at r k).live
+  pub replay_new : pick ≡ New → picked_from pick 0 a.loose a.synced a.live ≡ (state_at r k).live
   replay_new new =
-      replay_picked ∙ ap (λ (p : Pick). picked p (state_at r k) (settled_at r k)) new
-      ∙ is_new (state_at r k) (settled_at r k) (settled_image r k fit)
+      replay_picked ∙ ap (λ (p : Pick). picked p (state_at r k) (synced_at r k)) new
+      ∙ is_new (state_at r k) (synced_at r k) (synced_image r k fit)
 
 -- ---- ANSWERS
 

@@ -8,8 +8,8 @@ use Rattle.std.proofs.lemmas.List.FromFn.{get_or-map-range_with_len, length-map-
 use Rattle.std.proofs.lemmas.Bool.{cases_lt}
 use Rattle.std.proofs.lemmas.Bool.Decides.{nat_tests}
 use Rattle.sis_disk.specs.Record.{Call, Reads, Writes, Syncs, DiskRecord, State, after, after_all, is_loose, laid, state_at}
-use Rattle.sis_disk.specs.Kept.{taken, all_taken, calls_of, call_of}
-use Rattle.sis_disk.specs.Picks.{loose_bits, settled_at, settled_by, settled_after}
+use Rattle.sis_disk.specs.Notes.{taken, all_taken, calls_of, call_of}
+use Rattle.sis_disk.specs.Picks.{loose_bits, synced_at, synced_by, synced_after}
 use Rattle.sis_disk.specs.Replay.{Replayed, Fits, AllFit, replayed_by, replayed_after, set_bits, unplayed}
 use Rattle.sis_disk.specs.declared.log.Noted.{Noted}
 use Rattle.sis_disk.proofs.Laid.{length-laid, not_inside}
@@ -168,15 +168,15 @@ bits_clear size =
 -- a replay stands where a state and the bytes at the last sync stand
 pub record Agrees (a : Replayed) (s : State) (old : List ℕ) : Type 0 where
   pub live : a.live ≡ s.live
-  pub settled : a.settled ≡ old
+  pub synced : a.synced ≡ old
   pub loose : a.loose ≡ loose_bits s
 
 agrees_by : (c : Call) (a : Replayed) (s : State) (old : List ℕ) → Fits (length s.live) c
-    → Agrees a s old → Agrees (replayed_by c a) (after s c) (settled_by c s old)
+    → Agrees a s old → Agrees (replayed_by c a) (after s c) (synced_by c s old)
 agrees_by (Reads at len ok) a s old fits g = g
 agrees_by (Writes at bytes true) a s old fits g = record {
   live = ap (λ (l : List ℕ). laid l at bytes) g.live;
-  settled = g.settled;
+  synced = g.synced;
   loose =
       ap (λ (bits : List Bool). set_bits at (length bytes) bits) g.loose
       ∙ bits_set s.loose (length s.live) at (length bytes) fits
@@ -185,33 +185,33 @@ agrees_by (Writes at bytes true) a s old fits g = record {
 }
 agrees_by (Writes at bytes false) a s old fits g = record {
   live = g.live;
-  settled = g.settled;
+  synced = g.synced;
   loose =
       ap (λ (bits : List Bool). set_bits at (length bytes) bits) g.loose
       ∙ bits_set s.loose (length s.live) at (length bytes) fits;
 }
 agrees_by (Syncs true) a s old fits g = record {
   live = g.live;
-  settled = g.live;
+  synced = g.live;
   loose = ap (λ (l : List ℕ). replicate (length l) false) g.live ∙ bits_clear (length s.live);
 }
 agrees_by (Syncs false) a s old fits g = g
 
 agrees_after : (a : Replayed) (s : State) (old : List ℕ) (cs : List Call)
     → AllByRecursion (Fits (length s.live)) cs → Agrees a s old
-    → Agrees (replayed_after a cs) (after_all s cs) (settled_after old s cs)
+    → Agrees (replayed_after a cs) (after_all s cs) (synced_after old s cs)
 agrees_after a s old [] fit g = g
 agrees_after a s old (c ∷ cs) fit g =
     let same : length (after s c).live ≡ length s.live = size_by c s fit.0 in
-    agrees_after (replayed_by c a) (after s c) (settled_by c s old) cs (rw same fit.1)
+    agrees_after (replayed_by c a) (after s c) (synced_by c s old) cs (rw same fit.1)
     (agrees_by c a s old fit.0 g)
 
 pub agrees_at : (r : DiskRecord) (k : ℕ) → AllFit r
-    → Agrees (replayed_after (unplayed r.opening) (take k r.calls)) (state_at r k) (settled_at r k)
+    → Agrees (replayed_after (unplayed r.opening) (take k r.calls)) (state_at r k) (synced_at r k)
 agrees_at r k fit =
     agrees_after (unplayed r.opening) (record { live = r.opening; loose = [] }) r.opening
     (take k r.calls) (all-take _ k r.calls fit) (record {
       live = refl;
-      settled = refl;
+      synced = refl;
       loose = bits_clear (length r.opening);
     })

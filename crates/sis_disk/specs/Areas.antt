@@ -5,7 +5,8 @@ use Rattle.sis_disk.specs.declared.layout.ImageKind.TheVariants as kind
 use Rattle.sis_disk.specs.declared.layout.Layout.{Layout}
 use Rattle.sis_disk.specs.declared.layout.TableKind.{TableKind}
 use Rattle.sis_disk.specs.Layout.{table_cap}
-use Rattle.sis_disk.specs.Superblock.{superblock_at, ImageFault, ◌>>=◌, guard}
+use Rattle.sis_disk.specs.Superblock.{superblock_at, ImageFault}
+use Rattle.sis_reading.specs.Steps.{◌>>=◌, guard}
 
 -- where an area begins: area A behind the selector's block, area B behind area A and its log
 abbrev pub area_start : Layout → Bool → ℕ
@@ -36,11 +37,16 @@ abbrev pub shifted : {V : Type 0} → ℕ → Result V TextFault → Result V Im
 shifted at (Ok v) = Ok v
 shifted at (Err fault) = Err (at + fault.0, kind.Table fault.1)
 
+-- the selected area's text, where the area has room for one of the length that it says
+abbrev pub text_at : Layout → List ℕ → Result (List ℕ) ImageFault
+text_at l m =
+    guard (selected_at l m, kind.TableLength) (nat_lt (table_cap l) (stated_len l m))
+    (text_bytes l m)
+
 -- reads an image: superblock, selector, and the selected area's text as `read` reads it
 unfoldable pub read_by : {V : Type 0} → (Layout → List ℕ → Result V TextFault) → List ℕ
     → Result V ImageFault
 read_by read m = do
   layout ← superblock_at (length m) (take 4096 m)
-  a ← guard (selected_at layout m) kind.TableLength
-      (nat_lt (table_cap layout) (stated_len layout m))
-  shifted (selected_at layout m + 8) (read layout (text_bytes layout m))
+  text ← text_at layout m
+  shifted (selected_at layout m + 8) (read layout text)

@@ -6,6 +6,10 @@ use Rattle.sis_disk.specs.declared.layout.Layout.{Layout}
 abbrev pub first_place : Layout → ℕ
 first_place l = 2 + 2 * (l.area + l.log)
 
+-- where the data blocks begin, in bytes: what lies before is written by commits alone
+abbrev pub first_byte : Layout → ℕ
+first_byte l = 4096 * first_place l
+
 -- how many data blocks there are
 abbrev pub data_blocks : Layout → ℕ
 data_blocks l = l.total - first_place l

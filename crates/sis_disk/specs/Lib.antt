@@ -1,11 +1,12 @@
 pub mod Areas
+pub mod Causes
 pub mod Failing
 pub mod Guid
-pub mod Kept
 pub mod Layout
 pub mod Live
 pub mod Memory
 pub mod MemoryStreams
+pub mod Notes
 pub mod Picks
 pub mod Record
 pub mod Replay

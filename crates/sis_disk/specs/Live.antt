@@ -8,6 +8,7 @@ counted_by r = refl
 pub sized_by : (r : DiskRecord) → length (live_bytes r) ≡ length (live_bytes r)
 sized_by r = refl
 
-pub after_all-push : (s : State) (cs : List Call) (c : Call) → after_all s (cs ++ c ∷ []) ≡ after (after_all s cs) c
+pub after_all-push : (s : State) (cs : List Call) (c : Call)
+    → after_all s (cs ++ c ∷ []) ≡ after (after_all s cs) c
 after_all-push s [] c = refl
 after_all-push s (d ∷ cs) c = after_all-push (after s d) cs c

@@ -10,9 +10,9 @@ pub record SourceView : Type 0 where
   pub calls : ℕ
   pub faults : ℕ
 
--- What it holds, the room for more in bytes, and the rest as for a source.
+-- What was written, the room for more in bytes, and the rest as for a source.
 pub record SinkView : Type 0 where
-  pub held : List ℕ
+  pub written : List ℕ
   pub room : ℕ
   pub fails : List ℕ
   pub calls : ℕ

@@ -6,20 +6,20 @@ use Rattle.sis_disk.specs.declared.pick.Pick.{Pick}
 use Rattle.sis_disk.specs.declared.pick.Pick.TheVariants.{Old, New, Fill, Front}
 
 -- the bytes at the last sync that succeeded, given those before the call
-abbrev pub settled_by : Call → State → List ℕ → List ℕ
-settled_by (Reads at len ok) s old = old
-settled_by (Writes at bytes ok) s old = old
-settled_by (Syncs true) s old = s.live
-settled_by (Syncs false) s old = old
+abbrev pub synced_by : Call → State → List ℕ → List ℕ
+synced_by (Reads at len ok) s old = old
+synced_by (Writes at bytes ok) s old = old
+synced_by (Syncs true) s old = s.live
+synced_by (Syncs false) s old = old
 
 -- the same after some calls
-abbrev pub settled_after : List ℕ → State → List Call → List ℕ
-settled_after old s [] = old
-settled_after old s (c ∷ cs) = settled_after (settled_by c s old) (after s c) cs
+abbrev pub synced_after : List ℕ → State → List Call → List ℕ
+synced_after old s [] = old
+synced_after old s (c ∷ cs) = synced_after (synced_by c s old) (after s c) cs
 
 -- the same after the first k calls, and the opening bytes where no sync succeeded
-abbrev pub settled_at : DiskRecord → ℕ → List ℕ
-settled_at r k = settled_after r.opening (record { live = r.opening; loose = [] }) (take k r.calls)
+abbrev pub synced_at : DiskRecord → ℕ → List ℕ
+synced_at r k = synced_after r.opening (record { live = r.opening; loose = [] }) (take k r.calls)
 
 -- whether each position is loose
 abbrev pub loose_bits : State → List Bool

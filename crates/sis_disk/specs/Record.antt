@@ -1,5 +1,5 @@
 -- The calls of a disk: what it then has, and what a stop may leave.
-use Rattle.std.specs.Prelude.{◌≡◌, ◌⊎◌, ℕ, ◌+◌, ◌-◌, ◌^◌, ◌<◌, ◌≤◌, min, nat_le, nat_lt, Bool, true, false, ◌&&◌, ◌||◌, List, [], ◌∷◌, ◌++◌, length, take, drop, slice_index, Option, Result, OnOk, OnErr}
+use Rattle.std.specs.Prelude.{◌≡◌, ◌⊎◌, ℕ, ◌+◌, ◌-◌, ◌^◌, ◌<◌, ◌≤◌, min, nat_le, nat_lt, Bool, true, false, ◌&&◌, ◌||◌, List, [], ◌∷◌, ◌++◌, length, take, drop, slice_index, Option, IfSome, Result, OnOk, OnErr}
 use Rattle.std.specs.Option.{option_map}
 
 -- a call that was made: its range, the bytes of a write, and whether it succeeded
@@ -25,8 +25,10 @@ laid old at bytes = take at old ++ bytes ++ drop (at + length bytes) old
 -- the state after one call more
 abbrev pub after : State → Call → State
 after s (Reads at len ok) = s
-after s (Writes at bytes true) = record { live = laid s.live at bytes; loose = (at, length bytes) ∷ s.loose }
-after s (Writes at bytes false) = record { live = s.live; loose = (at, length bytes) ∷ s.loose }
+after s (Writes at bytes true) =
+    record { live = laid s.live at bytes; loose = (at, length bytes) ∷ s.loose }
+after s (Writes at bytes false) =
+    record { live = s.live; loose = (at, length bytes) ∷ s.loose }
 after s (Syncs true) = record { live = s.live; loose = [] }
 after s (Syncs false) = s
 
@@ -50,12 +52,14 @@ live_bytes r = (state_of r).live
 -- the position lies in one of the ranges
 abbrev pub is_loose : List (ℕ × ℕ) → ℕ → Bool
 is_loose [] i = false
-is_loose (range ∷ ranges) i = (nat_le range.0 i && nat_lt i (range.0 + range.1)) || is_loose ranges i
+is_loose (range ∷ ranges) i =
+    (nat_le range.0 i && nat_lt i (range.0 + range.1)) || is_loose ranges i
 
 -- what a stop in this state may leave
 pub record IsImage (s : State) (m : List ℕ) : Type 0 where
   pub size : length m ≡ length s.live
-  pub same : (i : ℕ) → i < length m → is_loose s.loose i ≡ false → slice_index m i ≡ slice_index s.live i
+  pub same : (i : ℕ) → i < length m → is_loose s.loose i ≡ false
+      → slice_index m i ≡ slice_index s.live i
 
 -- what a stop may leave after the first k calls
 abbrev pub IsImageAfter : DiskRecord → ℕ → List ℕ → Type 0
@@ -87,7 +91,8 @@ pub record NotMade (old new : Seen) : Type 0 where
   pub told : new.told ≡ old.told
 
 -- What a call leaves. Given whether it succeeded, `call` is the call. A refused call fails.
-pub record Went {T E : Type 0} (call : Bool → Call) (result : Result T E) (old new : Seen) : Type 0 where
+pub record Went {T E : Type 0} (call : Bool → Call) (result : Result T E)
+    (old new : Seen) : Type 0 where
   pub size : new.size ≡ old.size
   pub faults : old.faults ≤ new.faults
   pub cause : OnErr result (Rose old.faults new.faults)
@@ -97,3 +102,7 @@ pub record Went {T E : Type 0} (call : Bool → Call) (result : Result T E) (old
 -- the live bytes, where the disk tells them
 abbrev pub live_of : Seen → Option (List ℕ)
 live_of seen = option_map live_bytes seen.told
+
+-- the count of calls is that of the record, where the disk tells it
+abbrev pub IsCounted : Seen → Type 0
+IsCounted seen = IfSome seen.told (λ r. length r.calls ≡ seen.calls)

@@ -6,7 +6,7 @@ use Rattle.sis_disk.specs.Record.{Call, Reads, Writes, Syncs, DiskRecord, laid}
 -- the live bytes, those at the last sync, and of each position whether it is loose
 pub record Replayed : Type 0 where
   pub live : List ℕ
-  pub settled : List ℕ
+  pub synced : List ℕ
   pub loose : List Bool
 
 -- these bits with n of them set, from `at` on
@@ -19,13 +19,13 @@ replayed_by (Reads at len ok) a = a
 replayed_by (Writes at bytes true) a =
     record {
       live = laid a.live at bytes;
-      settled = a.settled;
+      synced = a.synced;
       loose = set_bits at (length bytes) a.loose;
     }
 replayed_by (Writes at bytes false) a =
-    record { live = a.live; settled = a.settled; loose = set_bits at (length bytes) a.loose }
+    record { live = a.live; synced = a.synced; loose = set_bits at (length bytes) a.loose }
 replayed_by (Syncs true) a =
-    record { live = a.live; settled = a.live; loose = replicate (length a.live) false }
+    record { live = a.live; synced = a.live; loose = replicate (length a.live) false }
 replayed_by (Syncs false) a = a
 
 -- the same after some calls more
@@ -36,7 +36,7 @@ replayed_after a (c ∷ cs) = replayed_after (replayed_by c a) cs
 -- what is kept before any call
 abbrev pub unplayed : List ℕ → Replayed
 unplayed opening =
-    record { live = opening; settled = opening; loose = replicate (length opening) false }
+    record { live = opening; synced = opening; loose = replicate (length opening) false }
 
 -- a call that writes lies in a disk of this length
 abbrev pub Fits : ℕ → Call → Type 0

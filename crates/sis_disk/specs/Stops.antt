@@ -18,7 +18,13 @@ with_calls more r = record { opening = r.opening; calls = r.calls ++ more }
 -- from one record to a later one each image has P
 abbrev pub GoesOn : (List ℕ → Type 0) → Option DiskRecord → Option DiskRecord → Type 0
 GoesOn P None new = new ≡ None
-GoesOn P (Some r) new = (more : List Call) × (new ≡ Some (with_calls more r)) × ShowsAlong P (state_of r) more
+GoesOn P (Some r) new =
+    (more : List Call) × (new ≡ Some (with_calls more r)) × ShowsAlong P (state_of r) more
+
+-- the record went on by calls of this kind
+abbrev pub GoesOnBy : (List Call → Type 0) → Option DiskRecord → Option DiskRecord → Type 0
+GoesOnBy Are None new = new ≡ None
+GoesOnBy Are (Some r) new = (more : List Call) × (new ≡ Some (with_calls more r)) × Are more
 
 -- the calls of some function went by
 pub record Elapses (old new : Seen) : Type 0 where

@@ -1,4 +1,4 @@
--- What a source takes, what a sink holds, and what a count of faults says of an answer.
+-- What a source takes, what is written to a sink, and what a count of faults says of an answer.
 use Rattle.std.specs.Prelude.{◌≡◌, ℕ, ◌≤◌, ◌++◌, List, [], Option, None, Some, Result, OnErr, ⊤}
 use Rattle.sis_disk.specs.Record.{Rose}
 
@@ -18,7 +18,7 @@ Takes (Some left) None bytes = ⊥
 abbrev pub TakesNothing : Option (List ℕ) → Option (List ℕ) → Type 0
 TakesNothing old new = new ≡ old
 
--- Where a sink tells what it holds, the bytes were appended.
+-- Where a sink tells what was written, the bytes were appended.
 abbrev pub Appended : Option (List ℕ) → Option (List ℕ) → List ℕ → Type 0
 Appended None None bytes = ⊤
 Appended (Some old) (Some new) bytes = new ≡ old ++ bytes
@@ -27,4 +27,5 @@ Appended (Some old) None bytes = ⊥
 
 -- a front of the bytes was appended
 abbrev pub AppendedFront : Option (List ℕ) → Option (List ℕ) → List ℕ → Type 0
-AppendedFront old new bytes = (front rest : List ℕ) × (bytes ≡ front ++ rest) × Appended old new front
+AppendedFront old new bytes =
+    (front rest : List ℕ) × (bytes ≡ front ++ rest) × Appended old new front

@@ -9,6 +9,10 @@ use std::os::unix::fs::FileExt;
 
 /// A disk over an opened file, whose length is that at opening.
 ///
+/// A sync is one of the file's data, since its length never changes. Once one has failed, each
+/// later sync is refused: a system may drop what it couldn't write, and then the next one succeeds
+/// without it.
+///
 /// It is part of what is trusted: no clause says which bytes a file gives, nor that a sync makes
 /// them stable.
 #[derive(Drop)]
@@ -17,6 +21,7 @@ pub struct ImageFile<F: FileExt + OpenFile + Drop> {
     size: u64,
     calls: u64,
     faults: u64,
+    sync_failed: bool,
 }
 
 impl<F: FileExt + OpenFile + Drop> ImageFile<F> {
@@ -31,6 +36,7 @@ impl<F: FileExt + OpenFile + Drop> ImageFile<F> {
             size,
             calls: 0,
             faults: 0,
+            sync_failed: false,
         })
     }
 
@@ -102,8 +108,12 @@ impl<F: FileExt + OpenFile + Drop> Disk for ImageFile<F> {
 
     #[tactic(auto, using(crate::proofs::Counts::raised_later, crate::proofs::Counts::raised_rose))]
     fn sync(&mut self) -> Result<(), DiskFault> {
+        if self.sync_failed {
+            return Err(self.fault());
+        }
         self.begin()?;
-        let outcome = self.file.sync_all();
+        let outcome = self.file.sync_data();
+        self.sync_failed = outcome.is_err();
         self.end(outcome)
     }
 }

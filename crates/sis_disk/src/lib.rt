@@ -26,7 +26,7 @@ pub use disk::{Disk, DiskFault};
 pub use guids::Guids;
 pub use image_file::ImageFile;
 pub use laws::{stop_may_leave_live_bytes, sync_makes_stable};
-pub use layout::{GoodKind, ImageKind, Layout, TableKind};
+pub use layout::{BLOCK_LEN, GoodKind, ImageKind, Layout, TableKind};
 pub use memory::Memory;
 pub use memory_sink::MemorySink;
 pub use memory_source::MemorySource;

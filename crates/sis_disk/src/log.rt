@@ -1,7 +1,7 @@
 //! The calls that a disk in memory keeps, in room that was reserved before, and which it fails.
 ghost use Rattle.std.specs.Prelude.{◌≡◌, ◌+◌, ◌-◌, ◌*◌, ◌/◌, ◌<◌, ◌≤◌, [], ◌∷◌, ◌++◌, length, take, vec_capacity, IsTrue, IfOk, ◌↔◌};
 ghost use Rattle.sis_disk.specs.Record.{with_call};
-ghost use Rattle.sis_disk.specs.Kept.{call_by, call_of, taken, taken_by};
+ghost use Rattle.sis_disk.specs.Notes.{call_by, call_of, taken, taken_by};
 ghost use Rattle.sis_disk.specs.Memory.{Answers, fails_next};
 ghost use Rattle.sis_disk.specs.Failing.{raised};
 ghost use Rattle.sis_disk.specs.Replay.{AllFit, replayed_after, unplayed};
@@ -45,7 +45,7 @@ pub struct Log {
 impl Model for Log {
     ghost use Rattle.std.specs.Prelude.{◌≡◌, ◌+◌, ◌*◌, ◌≤◌, length, vec_capacity};
     ghost use Rattle.sis_disk.specs.Memory.{MemoryView};
-    ghost use Rattle.sis_disk.specs.Kept.{record_of, all_taken};
+    ghost use Rattle.sis_disk.specs.Notes.{record_of, all_taken};
 
     ghost Value = { MemoryView };
 

@@ -3,7 +3,7 @@ ghost use Rattle.std.specs.Prelude.{◌≡◌, ◌+◌, ◌≤◌, ◌++◌, [],
 ghost use Rattle.sis_disk.specs.Record.{Reads, Writes, Syncs, IsImageAfter, Went, live_bytes, state_at};
 ghost use Rattle.sis_disk.specs.Live.{sized_by, counted_by};
 ghost use Rattle.sis_disk.specs.Memory.{Answers, seen_of};
-ghost use Rattle.sis_disk.specs.Picks.{picked, settled_at};
+ghost use Rattle.sis_disk.specs.Picks.{picked, synced_at};
 
 use crate::log::{Kind, Log};
 use crate::replay::lay;
@@ -68,11 +68,11 @@ impl Memory {
     /// fewer.
     pub fn image(&self, alloc: Global, k: u64, pick: Pick) -> Result<Vec<u8>, AllocError>
         ensures picked { IfOk result (λ m.
-            m.items ≡ picked pick (state_at self.now.told k) (settled_at self.now.told k)) }
+            m.items ≡ picked pick (state_at self.now.told k) (synced_at self.now.told k)) }
         ensures image { IfOk result (λ m. IsImageAfter self.now.told k m.items) }
 
         // What the two plain picks are.
-        ensures old { pick ≡ Pick.Old → IfOk result (λ m. m.items ≡ settled_at self.now.told k) }
+        ensures old { pick ≡ Pick.Old → IfOk result (λ m. m.items ≡ synced_at self.now.told k) }
         ensures new { pick ≡ Pick.New → IfOk result (λ m.
             m.items ≡ (state_at self.now.told k).live) }
     {

@@ -10,7 +10,7 @@ use std::marker::Model;
 /// What was written, in room that was reserved before.
 #[derive(Drop)]
 pub struct MemorySink {
-    held: Vec<u8>,
+    bytes: Vec<u8>,
     room: u64,
     fails: Vec<u64>,
     calls: u64,
@@ -24,14 +24,14 @@ impl Model for MemorySink {
     ghost Value = { SinkView };
 
     ghost view = { λ a. record {
-      held = a.held.items;
+      written = a.bytes.items;
       room = a.room;
       fails = a.fails.items;
       calls = a.calls;
       faults = a.faults;
     } };
 
-    ghost invariant = { λ a. length a.held.items + a.room ≤ vec_capacity a.held };
+    ghost invariant = { λ a. length a.bytes.items + a.room ≤ vec_capacity a.bytes };
 }
 
 impl MemorySink {
@@ -39,7 +39,7 @@ impl MemorySink {
     /// the first write being number 0.
     pub fn new(alloc: Global, fails: Vec<u64>, room: u64) -> Result<MemorySink, AllocError>
         ensures { IfOk result (λ sink. sink ≡ record {
-          held = [];
+          written = [];
           room = room;
           fails = fails.items;
           calls = 0;
@@ -47,7 +47,7 @@ impl MemorySink {
         }) }
     {
         Ok(MemorySink {
-            held: Vec::with_capacity(alloc, room as usize)?,
+            bytes: Vec::with_capacity(alloc, room as usize)?,
             room,
             fails,
             calls: 0,
@@ -57,30 +57,31 @@ impl MemorySink {
 
     /// All that was written.
     pub fn written(&self) -> &[u8]
-        ensures { result.now ≡ self.now.held }
+        ensures { result.now ≡ self.now.written }
     {
-        &self.held
+        &self.bytes
     }
 }
 
 impl Sink for MemorySink {
-    ghost held = { λ s. Some s.held };
+    ghost written = { λ s. Some s.written };
 
     ghost faults = { λ s. s.faults };
 
     #[tactic(auto, using(crate::proofs::Counts::raised_is))]
     fn write(&mut self, bytes: &[u8]) -> Result<(), SinkFault>
         // What the trait says.
-        ensures ok { OnOk result (Appended (Some self.old.held) (Some self.new.held) bytes.now) }
+        ensures ok { OnOk result
+            (Appended (Some self.old.written) (Some self.new.written) bytes.now) }
         ensures err { OnErr result
-            (AppendedFront (Some self.old.held) (Some self.new.held) bytes.now) }
+            (AppendedFront (Some self.old.written) (Some self.new.written) bytes.now) }
         ensures cause { HasCause self.old.faults self.new.faults result }
 
         // When it fails, and that a failed write keeps nothing.
         ensures fails { is_ok result ≡ (not (is_to_fail self.old.fails self.old.calls)
             && nat_le (length bytes.now) self.old.room) }
         ensures written { OnOk result (self.new ≡ record self.old {
-          held = self.old.held ++ bytes.now;
+          written = self.old.written ++ bytes.now;
           room = self.old.room - length bytes.now;
           calls = raised self.old.calls;
         }) }
@@ -95,7 +96,7 @@ impl Sink for MemorySink {
             self.faults = self.faults.saturating_add(1);
             return Err(SinkFault);
         }
-        let _ = self.held.extend_from_slice(bytes);
+        let _ = self.bytes.extend_from_slice(bytes);
         self.room -= bytes.len() as u64;
         Ok(())
     }

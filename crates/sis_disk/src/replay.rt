@@ -2,7 +2,7 @@
 ghost use Rattle.std.specs.Prelude.{◌≡◌, ◌+◌, ◌≤◌, length, true, IfOk};
 ghost use Rattle.std.specs.List.{AllByRecursion};
 ghost use Rattle.sis_disk.specs.Record.{Writes, Syncs, laid};
-ghost use Rattle.sis_disk.specs.Kept.{call_of, calls_of, all_taken};
+ghost use Rattle.sis_disk.specs.Notes.{call_of, calls_of, all_taken};
 ghost use Rattle.sis_disk.specs.Picks.{picked_from};
 ghost use Rattle.sis_disk.specs.Replay.{Fits, replayed_by, replayed_after, set_bits, unplayed};
 
@@ -15,7 +15,7 @@ use std::marker::Model;
 #[derive(Drop)]
 pub struct Replay {
     live: Vec<u8>,
-    settled: Vec<u8>,
+    synced: Vec<u8>,
     loose: Vec<bool>,
 }
 
@@ -27,11 +27,11 @@ impl Model for Replay {
 
     ghost view = { λ a. record {
       live = a.live.items;
-      settled = a.settled.items;
+      synced = a.synced.items;
       loose = a.loose.items;
     } };
 
-    ghost invariant = { λ a. (length a.settled.items ≡ length a.live.items)
+    ghost invariant = { λ a. (length a.synced.items ≡ length a.live.items)
         × (length a.loose.items ≡ length a.live.items) };
 }
 
@@ -52,7 +52,7 @@ fn set_bits(bits: &mut Vec<bool>, at: usize, count: usize)
 
 // How many bytes of the row are this call's.
 fn taken(noted: &Noted) -> usize
-    ensures { result ≡ Rattle.sis_disk.specs.Kept.taken noted.now }
+    ensures { result ≡ Rattle.sis_disk.specs.Notes.taken noted.now }
 {
     match noted.kind {
         Kind::Write => noted.len as usize,
@@ -67,7 +67,7 @@ impl Replay {
     {
         Ok(Replay {
             live: opening.to_vec(alloc)?,
-            settled: opening.to_vec(alloc)?,
+            synced: opening.to_vec(alloc)?,
             loose: vec![in alloc; false; opening.len()]?,
         })
     }
@@ -85,7 +85,7 @@ impl Replay {
     fn sync(&mut self)
         ensures { self.new ≡ replayed_by (Syncs true) self.old }
     {
-        self.settled.copy_from_slice(&self.live);
+        self.synced.copy_from_slice(&self.live);
         self.loose.fill(false);
     }
 
@@ -118,8 +118,8 @@ impl Replay {
     /// The image that is picked.
     pub fn image(&self, alloc: Global, pick: Pick) -> Result<Vec<u8>, AllocError>
         ensures { IfOk result (λ image. image.items
-            ≡ picked_from pick 0 self.now.loose self.now.settled self.now.live) }
+            ≡ picked_from pick 0 self.now.loose self.now.synced self.now.live) }
     {
-        picked(alloc, pick, &self.loose, &self.settled, &self.live)
+        picked(alloc, pick, &self.loose, &self.synced, &self.live)
     }
 }

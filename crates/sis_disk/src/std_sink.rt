@@ -27,7 +27,7 @@ fn write_through<W: Write>(writer: &mut W, bytes: &[u8]) -> io::Result<()> {
 }
 
 impl<W: Write + Drop> Sink for StdSink<W> {
-    ghost held = { λ _. None };
+    ghost written = { λ _. None };
 
     ghost faults = { λ s. s.faults };
 

@@ -34,15 +34,15 @@ pub trait Source {
 
 /// A place for bytes.
 pub trait Sink {
-    /// What it holds, where it tells.
-    ghost held: { Self → Option (List ℕ) };
+    /// What was written, where it tells.
+    ghost written: { Self → Option (List ℕ) };
 
     /// How often it has failed.
     ghost faults: { Self → ℕ };
 
     /// Appends all the bytes, or a front of them at a fault.
     fn write(&mut self, bytes: &[u8]) -> Result<(), SinkFault>
-        ensures ok { OnOk result (Appended (held self.old) (held self.new) bytes.now) }
-        ensures err { OnErr result (AppendedFront (held self.old) (held self.new) bytes.now) }
+        ensures ok { OnOk result (Appended (written self.old) (written self.new) bytes.now) }
+        ensures err { OnErr result (AppendedFront (written self.old) (written self.new) bytes.now) }
         ensures cause { HasCause (faults self.old) (faults self.new) result };
 }

@@ -1,7 +1,8 @@
 //! Each public call once, with values that were worked out by hand, and the adapters on real files.
 use crate::{
-    CounterGuids, Disk, DiskFault, Guids, ImageFile, Memory, MemorySink, MemorySource, Pick,
-    RandomGuids, Sink, SinkFault, Source, SourceFault, StdSink, StdSource,
+    CounterGuids, Disk, DiskFault, GoodKind, Guids, ImageFile, ImageKind, Layout, Memory,
+    MemorySink, MemorySource, Pick, RandomGuids, Sink, SinkFault, Source, SourceFault, StdSink,
+    StdSource, TableKind,
 };
 use std::fs;
 use std::fs::{File, OpenOptions};
@@ -63,56 +64,32 @@ fn no_room_is_out_of_memory(rt: HostRuntime) {
 }
 
 #[test]
-fn a_source_gives_pieces_and_fails_at_its_number(rt: HostRuntime) -> Result<(), Fail> {
+fn streams_in_memory_fail_at_their_numbers(rt: HostRuntime) -> Result<(), Fail> {
     let alloc = rt.alloc();
-    let bytes = vec![in alloc; 1, 2, 3]?;
-    let mut source = MemorySource::new(bytes, 2, vec![in alloc; 1]?);
-    let rows = [
-        (Ok(2), [1, 2, 0]),
-        (Err(SourceFault), [0, 0, 0]),
-        (Ok(1), [3, 0, 0]),
-        (Ok(0), [0, 0, 0]),
-    ];
-    for (count, want) in rows {
-        let mut got = [0; 3];
-        assert_eq!(rt; source.read(&mut got), count);
-        assert_eq!(rt; got, want);
-    }
-    Ok(())
-}
-
-#[test]
-fn a_sink_fails_at_its_number_and_where_its_room_ends(rt: HostRuntime) -> Result<(), Fail> {
-    let alloc = rt.alloc();
+    let mut source = MemorySource::new(vec![in alloc; 1, 2, 3]?, 2, vec![in alloc; 1]?);
     let mut sink = MemorySink::new(alloc, vec![in alloc; 1]?, 4)?;
-    sink.write(&[1, 2])?;
+    let mut got = [0; 3];
+    assert_eq!(rt; source.read(&mut got), Ok(2));
+    assert_eq!(rt; source.read(&mut got), Err(SourceFault));
+    sink.write(&got[..2])?;
     assert_eq!(rt; sink.write(&[3]), Err(SinkFault));
-    assert_eq!(rt; sink.write(&[4, 5, 6]), Err(SinkFault));
-    sink.write(&[7, 8])?;
-    assert_eq!(rt; sink.written(), [1, 2, 7, 8].as_slice());
+    assert_eq!(rt; source.read(&mut got), Ok(1));
+    assert_eq!(rt; source.read(&mut got), Ok(0));
+    sink.write(&got[..1])?;
+    assert_eq!(rt; sink.write(&[4, 5]), Err(SinkFault));
+    assert_eq!(rt; sink.written(), [1, 2, 3].as_slice());
     Ok(())
 }
 
 #[test]
-fn guids_count_up_in_big_endian_order(rt: HostRuntime) {
-    let mut guids = CounterGuids::new(1);
-    let one = [0, 0, 0, 0, 0, 0, 0, 0, 0, 0, 0, 0, 0, 0, 0, 1];
-    let two = [0, 0, 0, 0, 0, 0, 0, 0, 0, 0, 0, 0, 0, 0, 0, 2];
-    assert_eq!(rt; guids.next(), one);
-    assert_eq!(rt; guids.next(), two);
-    let last = [
-        0, 0, 0, 0, 0, 0, 0, 0, 255, 255, 255, 255, 255, 255, 255, 255,
-    ];
-    let mut guids = CounterGuids::new(u64::MAX);
-    assert_eq!(rt; guids.next(), last);
-    assert_eq!(rt; guids.next(), [0; 16]);
-}
-
-#[test]
-fn random_guids_differ_and_have_version_four(rt: HostRuntime) {
-    let mut guids = RandomGuids::new(&rt);
-    let one = guids.next();
-    let two = guids.next();
+fn guids_count_up_or_are_random(rt: HostRuntime) {
+    let mut counted = CounterGuids::new(258);
+    let first = [0, 0, 0, 0, 0, 0, 0, 0, 0, 0, 0, 0, 0, 0, 1, 2];
+    let second = [0, 0, 0, 0, 0, 0, 0, 0, 0, 0, 0, 0, 0, 0, 1, 3];
+    assert_eq!(rt; (counted.next(), counted.next()), (first, second));
+    let mut random = RandomGuids::new(&rt);
+    let one = random.next();
+    let two = random.next();
     assert_ne!(rt; one, two);
     assert_eq!(rt; (one[7] >> 4, two[7] >> 4), (4, 4));
 }
@@ -153,19 +130,58 @@ fn a_file_is_a_sink_and_a_source(rt: HostRuntime) -> Result<(), Fail> {
 }
 
 #[test]
-fn faults_have_messages(rt: HostRuntime) -> Result<(), Fail> {
+fn a_layout_has_its_numbers(rt: HostRuntime) {
+    let layout = Layout {
+        total: 16,
+        area: 2,
+        log: 0,
+        letter: b'C',
+    };
+    assert_eq!(rt; (layout.first_place(), layout.data_blocks()), (6, 10));
+    assert_eq!(rt;
+        (layout.area_start(false), layout.area_start(true)),
+        (8192, 16_384)
+    );
+    assert_eq!(rt; layout.cap(), 8184);
+}
+
+/// Each kind with its word in the program's line.
+const KINDS: [(ImageKind, &str); 20] = [
+    (ImageKind::Length, "length"),
+    (ImageKind::Magic, "magic"),
+    (ImageKind::Version, "version"),
+    (ImageKind::Letter, "letter"),
+    (ImageKind::Total, "total"),
+    (ImageKind::Area, "area"),
+    (ImageKind::Log, "log"),
+    (ImageKind::Zero, "zero"),
+    (ImageKind::TableLength, "tablelength"),
+    (ImageKind::Table(TableKind::Short), "table-short"),
+    (ImageKind::Table(TableKind::Next), "table-next"),
+    (ImageKind::Table(TableKind::Greatest), "table-greatest"),
+    (ImageKind::Table(TableKind::Count), "table-count"),
+    (ImageKind::Table(TableKind::Id), "table-id"),
+    (ImageKind::Table(TableKind::Name), "table-name"),
+    (ImageKind::Table(TableKind::Kind), "table-kind"),
+    (ImageKind::Table(TableKind::Size), "table-size"),
+    (
+        ImageKind::Table(TableKind::NodeVersion),
+        "table-nodeversion",
+    ),
+    (ImageKind::Table(TableKind::Run), "table-run"),
+    (ImageKind::Table(TableKind::Trailing), "table-trailing"),
+];
+
+#[test]
+fn kinds_and_faults_have_their_words(rt: HostRuntime) -> Result<(), Fail> {
     let alloc = rt.alloc();
+    for (kind, word) in KINDS {
+        assert_eq!(rt; format!(in alloc; "{kind}")?.as_str(), word);
+    }
+    let good = GoodKind::PlaceTwice;
     assert_eq!(rt;
-        format!(in alloc; "{DiskFault}")?.as_str(),
-        "the disk failed"
-    );
-    assert_eq!(rt;
-        format!(in alloc; "{SourceFault}")?.as_str(),
-        "the input failed"
-    );
-    assert_eq!(rt;
-        format!(in alloc; "{SinkFault}")?.as_str(),
-        "the output failed"
+        format!(in alloc; "{good}, {DiskFault}, {SourceFault}, {SinkFault}")?.as_str(),
+        "placetwice, the disk failed, the input failed, the output failed"
     );
     Ok(())
 }

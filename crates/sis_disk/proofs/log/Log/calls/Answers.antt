@@ -1,7 +1,7 @@
 use Rattle.std.proofs.Common.{◌≡◌, ◌∙◌, sym, ap, length, arith}
 use Rattle.std.proofs.lemmas.Grind.{common_steps}
 use Rattle.sis_disk.specs.Memory.{MemoryView}
-use Rattle.sis_disk.specs.Kept.{length-calls_of}
+use Rattle.sis_disk.specs.Notes.{length-calls_of}
 use Rattle.sis_disk.proofs.log.Log.calls.Goals as goal
 
 pub returns : goal.returns

@@ -1,7 +1,7 @@
 use Rattle.std.proofs.Common.{◌∷◌, [], List, ◌∙◌, ap, arith, length, length-append}
 use Rattle.sis_disk.specs.Memory.{MemoryView}
 use Rattle.sis_disk.specs.Record.{Call, with_call}
-use Rattle.sis_disk.specs.Kept.{call_of}
+use Rattle.sis_disk.specs.Notes.{call_of}
 use Rattle.sis_disk.proofs.Notes.{all_taken_push, calls_of_push}
 use Rattle.sis_disk.proofs.log.Log.push.Goals as goal
 

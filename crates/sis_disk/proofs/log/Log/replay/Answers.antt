@@ -1,7 +1,7 @@
 use Rattle.std.proofs.Common.{◌≡◌, ◌∙◌, ℕ, List, take, length, ap, sym, subst, arith}
 use Rattle.sis_disk.specs.Record.{DiskRecord}
 use Rattle.sis_disk.specs.Memory.{MemoryView}
-use Rattle.sis_disk.specs.Kept.{record_of}
+use Rattle.sis_disk.specs.Notes.{record_of}
 use Rattle.sis_disk.specs.Replay.{AllFit, Replayed, replayed_after, unplayed}
 use Rattle.sis_disk.proofs.Replays.{all_taken-take, all-take, calls_first}
 use Rattle.sis_disk.proofs.log.Log.replay.Goals as goal

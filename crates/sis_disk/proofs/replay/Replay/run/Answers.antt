@@ -1,5 +1,5 @@
 use Rattle.std.proofs.Common.{◌+◌, ap, ◌∙◌, drop, get_or, add-one, drop-cons, take, ℕ, false}
-use Rattle.sis_disk.specs.Kept.{calls_of}
+use Rattle.sis_disk.specs.Notes.{calls_of}
 use Rattle.sis_disk.specs.declared.log.Kind.TheVariants.{Read}
 use Rattle.sis_disk.specs.declared.log.Noted.{Noted}
 use Rattle.sis_disk.specs.Replay.{replayed_after}

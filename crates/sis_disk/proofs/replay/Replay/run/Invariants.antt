@@ -1,6 +1,6 @@
 use Rattle.std.proofs.Common.{◌≡◌, ◌≤◌, length, drop}
 use Rattle.std.specs.List.{AllByRecursion}
-use Rattle.sis_disk.specs.Kept.{calls_of, all_taken}
+use Rattle.sis_disk.specs.Notes.{calls_of, all_taken}
 use Rattle.sis_disk.specs.Replay.{Fits, replayed_after}
 use Rattle.sis_disk.proofs.replay.Replay.run.Given as goal
 

@@ -40,6 +40,8 @@ calls_of (n ∷ ns) row = call_of n (take (taken n) row) ∷ calls_of ns (drop (
 abbrev pub record_of : List ℕ → List Noted → List ℕ → DiskRecord
 record_of opening notes row = record { opening = opening; calls = calls_of notes row }
 
-pub length-calls_of : (notes : List Noted) (row : List ℕ) → length (calls_of notes row) ≡ length notes
+-- there are as many calls as notes
+pub length-calls_of : (notes : List Noted) (row : List ℕ)
+    → length (calls_of notes row) ≡ length notes
 length-calls_of [] row = refl
 length-calls_of (n ∷ ns) row = let e = length-calls_of ns (drop (taken n) row) in omega arith
