@@ -1,3 +1,4 @@
+-- A history with one entry more.
 use Rattle.std.proofs.Common.{◌≡◌, List, [], ◌∷◌, ◌++◌, refl}
 use Rattle.sis_model.specs.World.{World}
 use Rattle.sis_model.specs.Answer.{MayReply, world_with}

@@ -1,3 +1,4 @@
+-- A client's own part of the order of a run.
 use Rattle.std.proofs.Common.{◌≡◌, ℕ, ◌==◌, Bool, true, false, cond, ◌||◌, List, [], ◌∷◌, ◌++◌, refl, ap, arith}
 use Rattle.std.specs.List.{list_any}
 use Rattle.sis_model.specs.declared.command.Command.TheVariants as command

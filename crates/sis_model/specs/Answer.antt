@@ -48,13 +48,15 @@ refusal_of w client (command.Put name bytes) =
     (or_refused (is_some (bytes_of w name)) reply.Collision None))
 refusal_of w client (command.Open name write) =
     refusal_of_name w name
-    (or_refused (nat_le most_opens (length (opens_of w client))) (reply.Hindered (hindrance.Limit limit.Opens)) None)
+    (or_refused (nat_le most_opens (length (opens_of w client)))
+    (reply.Hindered (hindrance.Limit limit.Opens)) None)
 refusal_of w client (command.Read number at len) =
     refusal_of_open (open_of w client number)
     (or_refused (nat_lt most_bytes len || nat_lt greatest_size at) reply.InvalidParameter None)
 refusal_of w client (command.Write number at bytes) =
     refusal_of_writer (open_of w client number)
-    (or_refused (nat_lt most_bytes (length bytes) || nat_lt greatest_size (at + length bytes)) reply.InvalidParameter None)
+    (or_refused (nat_lt most_bytes (length bytes) || nat_lt greatest_size (at + length bytes))
+    reply.InvalidParameter None)
 refusal_of w client (command.Size number len) =
     refusal_of_writer (open_of w client number)
     (or_refused (nat_lt greatest_size len) reply.InvalidParameter None)
@@ -109,7 +111,8 @@ IsEnded opens _ = ⊥
 abbrev pub Answers : World → ℕ → Command → Reply → Type 0
 Answers w client (command.Put name bytes) r = r ≡ reply.Done
 Answers w client (command.Open name write) r = r ≡ reply.Opened (free_number w client)
-Answers w client (command.Read number at len) r = r ≡ reply.Read (take len (drop at (opened w client number)))
+Answers w client (command.Read number at len) r =
+    r ≡ reply.Read (take len (drop at (opened w client number)))
 Answers w client (command.Write number at bytes) r = r ≡ reply.Done
 Answers w client (command.Size number len) r = r ≡ reply.Done
 Answers w client (command.Close number) r = IsClosed r
@@ -117,7 +120,8 @@ Answers w client (command.Remove name) r = r ≡ reply.Done
 Answers w client (command.Rename old new) r = r ≡ reply.Done
 Answers w client (command.Stat name) r = r ≡ reply.Sized (length (content w name))
 Answers w client (command.List after) r =
-    r ≡ reply.Names (take most_names (names_after w after)) (nat_lt most_names (length (names_after w after)))
+    r ≡ reply.Names (take most_names (names_after w after))
+    (nat_lt most_names (length (names_after w after)))
 Answers w client (command.Tell name) r = IsTold r
 Answers w client command.Space r = IsSpace r
 Answers w client (command.Fsctl code bytes) r = r ≡ reply.Done
@@ -139,8 +143,10 @@ abbrev pub changed_by : World → ℕ → Command → World
 changed_by w client (command.Put name bytes) = with_file w name bytes
 changed_by w client (command.Open name write) = with_open w client name write
 changed_by w client (command.Read number at len) = w
-changed_by w client (command.Write number at bytes) = with_change w (open_of w client number) (written at bytes)
-changed_by w client (command.Size number len) = with_change w (open_of w client number) (resized len)
+changed_by w client (command.Write number at bytes) =
+    with_change w (open_of w client number) (written at bytes)
+changed_by w client (command.Size number len) =
+    with_change w (open_of w client number) (resized len)
 changed_by w client (command.Close number) = without_open w client number
 changed_by w client (command.Remove name) = without_file w name
 changed_by w client (command.Rename old new) = with_file (without_file w old) new (content w old)
@@ -160,8 +166,8 @@ pub data Kind : Type 0 where
   IsRefused : Kind
   IsHindered : (first : Bool) → Kind
 
--- The limit of opens depends on the world alone, so it is a refusal. That a commit failed before, and
--- want of memory, may come before any refusal.
+-- The limit of opens depends on the world alone, so it is a refusal. That a commit failed before,
+-- and want of memory, may come before any refusal.
 abbrev pub kind_of_hindrance : Hindrance → Kind
 kind_of_hindrance (hindrance.Limit limit.Opens) = IsRefused
 kind_of_hindrance (hindrance.Limit limit.Files) = IsHindered false

@@ -5,7 +5,8 @@ use Rattle.sis_name.specs.Name.{name_fault}
 use Rattle.sis_name.specs.Units.{is_store_name}
 use Rattle.sis_request.specs.Request.{Request, request_at}
 use Rattle.sis_request.specs.declared.fault.RequestFault.{RequestFault}
-use Rattle.sis_model.specs.World.{World, same_name, bytes_of, content, with_file, is_open, is_written}
+use Rattle.sis_name.specs.Files.{same_name}
+use Rattle.sis_model.specs.World.{World, bytes_of, content, with_file, is_open, is_written}
 use Rattle.sis_model.specs.declared.reply.Reply.{Reply}
 use Rattle.sis_model.specs.declared.reply.Reply.TheVariants as reply
 
@@ -31,7 +32,8 @@ is_root letter units =
 abbrev pub path_in : ℕ → List ℕ → Option (List ℕ)
 path_in letter units =
     if is_root letter units then Some (drop 3 units)
-    else if starts_with nat_eq units (codes "\\??\\") && is_root letter (drop 4 units) then Some (drop 7 units)
+    else if starts_with nat_eq units (codes "\\??\\") && is_root letter (drop 4 units)
+    then Some (drop 7 units)
     else None
 
 -- the first of some tests that holds gives the refusal
@@ -54,17 +56,20 @@ refusal_of_names w source destination flags =
 abbrev pub refusal_of_paths : World → Option (List ℕ) → Option (List ℕ) → ℕ → Option Reply
 refusal_of_paths w None destination flags = Some reply.NotSameDevice
 refusal_of_paths w (Some source) None flags = Some reply.NotSameDevice
-refusal_of_paths w (Some source) (Some destination) flags = refusal_of_names w source destination flags
+refusal_of_paths w (Some source) (Some destination) flags =
+    refusal_of_names w source destination flags
 
 -- the first refusal of what a request asks for, or of the request
 abbrev pub refusal_of_request : World → Result Request RequestFault → Option Reply
 refusal_of_request w (Err fault) = Some (reply.InvalidRequest fault)
-refusal_of_request w (Ok r) = refusal_of_paths w (path_in w.letter r.source) (path_in w.letter r.destination) r.flags
+refusal_of_request w (Ok r) =
+    refusal_of_paths w (path_in w.letter r.source) (path_in w.letter r.destination) r.flags
 
 -- the first refusal of a control
 abbrev pub refusal_of_control : World → ℕ → List ℕ → Option Reply
 refusal_of_control w code bytes =
-    or_refused (not (code == copy_code)) reply.InvalidDeviceRequest (refusal_of_request w (request_at bytes))
+    or_refused (not (code == copy_code)) reply.InvalidDeviceRequest
+    (refusal_of_request w (request_at bytes))
 
 -- the destination has the source's bytes
 abbrev pub copied_paths : World → Option (List ℕ) → Option (List ℕ) → World

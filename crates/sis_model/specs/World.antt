@@ -1,14 +1,9 @@
 -- The world of wholly separate files, and what is asked of it.
-use Rattle.std.specs.Prelude.{ℕ, ◌+◌, ◌==◌, ◌&&◌, nat_eq, Bool, not, List, [], ◌∷◌, ◌++◌, length, take, drop, replicate, filter, find, unwrap_or, Option}
+use Rattle.std.specs.Prelude.{ℕ, ◌+◌, ◌==◌, ◌&&◌, Bool, not, List, [], ◌∷◌, ◌++◌, length, take, drop, replicate, filter, find, unwrap_or, Option}
 use Rattle.std.specs.List.{list_any, range_with_len}
-use Rattle.std.specs.Cmp.Lexicographic.{pointwise}
 use Rattle.std.specs.FinMap as map
-use Rattle.std.specs.FinMap.{FinMap}
-use Rattle.sis_name.specs.Units.{name_cmp, is_after}
-
--- the bytes of files under their names
-abbrev pub Files : Type 0
-Files = FinMap name_cmp (List ℕ)
+use Rattle.sis_name.specs.Files.{Files, same_name}
+use Rattle.sis_name.specs.Units.{is_after}
 
 -- an open file: whose it is, under which number, and whether it may write
 pub record OpenFile : Type 0 where
@@ -26,9 +21,6 @@ pub record World : Type 0 where
 -- the world that has these files, none of them open
 abbrev pub unopened : ℕ → Files → World
 unopened letter files = record { letter = letter; files = files; opens = [] }
-
-abbrev pub same_name : List ℕ → List ℕ → Bool
-same_name a b = pointwise nat_eq a b
 
 -- the bytes of a file
 abbrev pub bytes_of : World → List ℕ → Option (List ℕ)
@@ -75,15 +67,24 @@ most_opens = 64
 -- the least number from 1 that the client has free
 abbrev pub free_number : World → ℕ → ℕ
 free_number w client =
-    unwrap_or (find (λ number. not (list_any (is_open_as client number) w.opens)) (range_with_len 1 most_opens)) 0
+    unwrap_or (find (λ number. not (list_any (is_open_as client number) w.opens))
+    (range_with_len 1 most_opens)) 0
 
 -- the world with one more open
 abbrev pub with_open : World → ℕ → List ℕ → Bool → World
 with_open w client name writes =
-    record w { opens = w.opens ++ record { client = client; number = free_number w client; name = name; writes = writes } ∷ [] }
+    record w {
+      opens = w.opens ++ record {
+        client = client;
+        number = free_number w client;
+        name = name;
+        writes = writes;
+      } ∷ [];
+    }
 
 abbrev pub without_open : World → ℕ → ℕ → World
-without_open w client number = record w { opens = filter (λ o. not (is_open_as client number o)) w.opens }
+without_open w client number =
+    record w { opens = filter (λ o. not (is_open_as client number o)) w.opens }
 
 -- the world without the client's opens
 abbrev pub without_client : World → ℕ → World

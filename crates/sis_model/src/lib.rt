@@ -1,5 +1,5 @@
-//! Commands, replies and histories as plain data, and in `specs/` what they mean: worlds of separate
-//! files, the answers that a world allows, and the orders of a run.
+//! Commands, replies and histories as plain data, and in `specs/` what they mean: worlds of
+//! separate files, the answers that a world allows, and the orders of a run.
 #![tactic(auto)]
 
 ghost use Rattle.std.specs.Prelude.{◌≡◌, ℕ, List, [], ◌∷◌, ◌++◌};
@@ -35,8 +35,8 @@ pub fn exec_order_is_expected()
         → commands_of client (exec_order lines) ≡ expected_calls lines client }
 {}
 
-/// A history with one more entry is legal exactly where it was legal before and its world allows the
-/// entry, whose reply then leaves the next world.
+/// A history with one more entry is legal exactly where it was legal before and its world allows
+/// the entry, whose reply then leaves the next world.
 pub fn legal_history_goes_on()
     ensures legal { (w : World) (es : List AnEntry) (e : AnEntry)
         → IsLegal w es

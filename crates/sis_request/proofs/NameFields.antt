@@ -8,9 +8,10 @@ use Rattle.byteorder.specs.Endian.{little_number}
 use Rattle.sis_request.specs.declared.fault.Field.{Field}
 use Rattle.sis_request.specs.declared.fault.RequestFault.{RequestFault}
 use Rattle.sis_request.specs.declared.fault.RequestFault.TheVariants as faults
-use Rattle.sis_request.specs.Request.{◌>>=◌, guard, no_early, is_null, but_last, units_of, name_of, IsLentName}
+use Rattle.sis_reading.specs.Steps.{◌>>=◌, guard}
+use Rattle.sis_request.specs.Request.{no_early, is_null, but_last, units_of, name_of, IsLentName}
 use Rattle.sis_request.proofs.NameUnits.{units_split, no_nulls}
-use Rattle.sis_request.proofs.Steps.{bind_ok, ok_is, guard_ok}
+use Rattle.sis_reading.proofs.StepLemmas.{bind_ok, ok_is, guard_ok}
 
 not_false : (b : Bool) → not b ≡ false → b ≡ true
 not_false true e = refl
@@ -31,7 +32,7 @@ front_units front u = ap (λ (i : ℕ). take i (front ++ u ∷ [])) (short front
 
 -- what reading does with some units and a last one
 abbrev pub judged : Field → List ℕ → ℕ → Result (List ℕ) RequestFault
-judged field front u = guard (faults.NoNull field) (not (is_null u)) >>= λ a. no_early field (position is_null front) >>= λ b. Ok front
+judged field front u = guard (faults.NoNull field) (not (is_null u)) (tt {0}) >>= λ a. no_early field (position is_null front) >>= λ b. Ok front
 
 pub name_of-judged : (field : Field) (front : List ℕ) (u : ℕ) → name_of field (front ++ u ∷ []) ≡ judged field front u
 unfolding name_of
@@ -84,7 +85,7 @@ split_last units long =
 pub name_ok : (field : Field) (units name : List ℕ) → 1 ≤ length units → name_of field units ≡ Ok name → (units ≡ name ++ 0 ∷ []) × (position is_null name ≡ None)
 unfolding name_of
 name_ok field units name long e =
-    let g = guard_ok (faults.NoNull field) _ _ name e in
+    let g = guard_ok (faults.NoNull field) _ _ _ name e in
     let b = bind_ok (no_early field (position is_null (but_last units))) _ name g.1 in
     let front : but_last units ≡ name = ok_is (but_last units) name b.2 in
     let null : slice_index units (length units - 1) ≡ 0 = eqb-true _ 0 (not_false _ g.0) in (

@@ -89,13 +89,6 @@ at_null at (b ∷ c ∷ rest) r long null so_far =
     let test : is_null (b + 256 * c) ≡ true = eq-eqb _ _ (sym (unit_of b c rest) ∙ null) in
     rw test at so_far
 
-pub past_unit : (at : ℕ) (rest : List ℕ) (r : Option ℕ) → 2 ≤ length rest → (little_number 2 rest ≡ 0 → ⊥) → position_from is_null at (units_of rest) ≡ r → position_from is_null (at + 1) (units_of (drop 2 rest)) ≡ r
-past_unit at [] r long full so_far = absurd (omega arith)
-past_unit at (b ∷ []) r long full so_far = absurd (omega arith)
-past_unit at (b ∷ c ∷ rest) r long full so_far =
-    let test : is_null (b + 256 * c) ≡ false = ne_eqb _ _ (λ e. full (unit_of b c rest ∙ e)) in
-    rw test at so_far
-
 pub no_unit : (at : ℕ) (rest : List ℕ) (r : Option ℕ) → length rest < 2 → position_from is_null at (units_of rest) ≡ r → None ≡ r
 no_unit at [] r short so_far = so_far
 no_unit at (b ∷ []) r short so_far = so_far

@@ -13,18 +13,19 @@ use Rattle.sis_request.specs.declared.fault.RequestFault.TheVariants as faults
 use Rattle.sis_request.specs.Request.{Request, IsRequest, IsRequestName, IsLentName, le2, le4, name_len, name_text, request_text, units_of, number_at, length_of, name_of, request_at}
 use Rattle.sis_request.proofs.NameUnits.{IsBytes, IsBytes-All, IsBytes-drop, IsBytes-take, length_units_of, length_name_text, text_units_of, units_fit, no_nulls, all_front, all_both}
 use Rattle.sis_request.proofs.NameFields.{name_ok}
-use Rattle.sis_request.proofs.Steps.{bind_ok, ok_is, guard_ok, IsLength, length_ok}
+use Rattle.sis_request.proofs.Lengths.{IsLength, length_ok}
+use Rattle.sis_reading.proofs.StepLemmas.{bind_ok, ok_is, guard_ok}
 use Rattle.sis_request.proofs.Spelled.{Finds, text_of, parts_of}
 
 finds_from : (bytes : List ℕ) (r : Request) → request_at bytes ≡ Ok r → (n : ℕ) × (m : ℕ) × Finds bytes n m r
 unfolding request_at
 finds_from bytes r e =
-    let head = guard_ok (faults.Short (length bytes) 12) (nat_lt (length bytes) 12) _ r e in
+    let head = guard_ok (faults.Short (length bytes) 12) (nat_lt (length bytes) 12) _ _ r e in
     let n = bind_ok (length_of fields.Source (number_at 0 bytes)) _ r head.1 in
     let n_is = length_ok fields.Source (number_at 0 bytes) n.0 n.1 in
     let m = bind_ok (length_of fields.Destination (number_at 4 bytes)) _ r n.2 in
     let m_is = length_ok fields.Destination (number_at 4 bytes) m.0 m.1 in
-    let whole = guard_ok (faults.Short (length bytes) (12 + n.0 + m.0)) (nat_lt (length bytes) (12 + n.0 + m.0)) _ r m.2 in
+    let whole = guard_ok (faults.Short (length bytes) (12 + n.0 + m.0)) (nat_lt (length bytes) (12 + n.0 + m.0)) _ _ r m.2 in
     let s = bind_ok (name_of fields.Source (units_of (slice_range bytes 12 (12 + n.0)))) _ r whole.1 in
     let d = bind_ok (name_of fields.Destination (units_of (slice_range bytes (12 + n.0) (12 + n.0 + m.0)))) _ r s.2 in
     let read : Request = record { source = s.0; destination = d.0; flags = number_at 8 bytes } in

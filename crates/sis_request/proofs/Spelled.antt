@@ -11,7 +11,8 @@ use Rattle.sis_request.specs.declared.fault.RequestFault.TheVariants as faults
 use Rattle.sis_request.specs.Request.{Request, IsRequest, IsRequestName, le4, name_len, name_text, request_text, units_of, number_at, length_of, name_of, request_at}
 use Rattle.sis_request.proofs.NameUnits.{length_name_text, units_of-name_text, all_first, all_second, no_null_in}
 use Rattle.sis_request.proofs.NameFields.{name_again}
-use Rattle.sis_request.proofs.Steps.{ok_is, bind_again, guard_again, IsLength, length_again}
+use Rattle.sis_request.proofs.Lengths.{IsLength, length_again}
+use Rattle.sis_reading.proofs.StepLemmas.{ok_is, bind_again, guard_again}
 
 -- what reading finds in the bytes of a request
 pub record Finds (bytes : List ℕ) (n m : ℕ) (r : Request) : Type 0 where
@@ -28,10 +29,10 @@ pub finds_again : (bytes : List ℕ) (n m : ℕ) (r : Request) → Finds bytes n
 unfolding request_at
 finds_again bytes n m r f =
     let long = f.long in
-    guard_again (faults.Short (length bytes) 12) _ _ _ (le-ltb (length bytes) 12 (omega arith))
+    guard_again (faults.Short (length bytes) 12) _ _ _ _ (le-ltb (length bytes) 12 (omega arith))
     (bind_again (length_of fields.Source (number_at 0 bytes)) n _ _ (ap (length_of fields.Source) f.first ∙ length_again fields.Source n f.first_length)
     (bind_again (length_of fields.Destination (number_at 4 bytes)) m _ _ (ap (length_of fields.Destination) f.second ∙ length_again fields.Destination m f.second_length)
-    (guard_again (faults.Short (length bytes) (12 + n + m)) _ _ _ (le-ltb (length bytes) (12 + n + m) long)
+    (guard_again (faults.Short (length bytes) (12 + n + m)) _ _ _ _ (le-ltb (length bytes) (12 + n + m) long)
     (bind_again (name_of fields.Source (units_of (slice_range bytes 12 (12 + n)))) r.source _ _ f.from
     (bind_again (name_of fields.Destination (units_of (slice_range bytes (12 + n) (12 + n + m)))) r.destination _ _ f.to
     (ap (λ (flags : ℕ). Ok (record { source = r.source; destination = r.destination; flags = flags })) f.flag_bits))))))

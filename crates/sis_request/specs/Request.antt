@@ -1,6 +1,7 @@
 -- A copy request in units of UTF-16: how it is spelled, and how any bytes are read.
-use Rattle.std.specs.Prelude.{ℕ, ◌+◌, ◌-◌, ◌*◌, ◌%◌, ◌^◌, ◌<◌, ◌≤◌, ◌≡◌, ◌==◌, ◌||◌, not, Bool, if◌then◌else◌, List, [], ◌∷◌, ◌++◌, length, take, drop, slice_index, slice_range, flat_map, position, All, nat_lt, Option, Some, None, Result, Ok, Err}
+use Rattle.std.specs.Prelude.{ℕ, ◌+◌, ◌-◌, ◌*◌, ◌%◌, ◌^◌, ◌<◌, ◌≤◌, ◌≡◌, ◌==◌, ◌||◌, not, Bool, List, [], ◌∷◌, ◌++◌, length, take, drop, slice_index, slice_range, flat_map, position, All, nat_lt, Option, Some, None, Result, Ok, Err}
 use Rattle.byteorder.specs.Endian.{little_bytes, little_number}
+use Rattle.sis_reading.specs.Steps.{◌>>=◌, guard}
 use Rattle.sis_request.specs.declared.fault.Field.{Field}
 use Rattle.sis_request.specs.declared.fault.Field.TheVariants as fields
 use Rattle.sis_request.specs.declared.fault.RequestFault.{RequestFault}
@@ -67,21 +68,6 @@ pub record IsLentName (bytes : List ℕ) : Type 0 where
 
 -- ---- reading
 
-infixl 10 ◌>>=◌
--- one reading, and then one that takes its value
-abbrev pub ◌>>=◌ : {A B : Type 0} → Result A RequestFault → (A → Result B RequestFault) → Result B RequestFault
-(Ok x) >>= f = f x
-(Err e) >>= f = Err e
-
--- what a function returned, seen by `view`, is what the reading gives
-abbrev pub Gives : {X Y : Type 0} → (X → Y) → Result X RequestFault → Result Y RequestFault → Type 0
-Gives view (Ok x) read = read ≡ Ok (view x)
-Gives view (Err e) read = read ≡ Err e
-
--- goes on where this isn't wrong
-abbrev pub guard : RequestFault → Bool → Result (Unit {0}) RequestFault
-guard fault wrong = if wrong then Err fault else Ok (tt {0})
-
 -- the number of four bytes at this offset
 abbrev pub number_at : ℕ → List ℕ → ℕ
 number_at at bytes = little_number 4 (drop at bytes)
@@ -89,13 +75,14 @@ number_at at bytes = little_number 4 (drop at bytes)
 -- a length in bytes that a name may have
 unfoldable pub length_of : Field → ℕ → Result ℕ RequestFault
 length_of field n = do
-  a ← guard (faults.OddLength field) (n % 2 == 1)
-  b ← guard (faults.LengthRange field n) (nat_lt n 4 || nat_lt 65534 n)
+  a ← guard (faults.OddLength field) (n % 2 == 1) (tt {0})
+  b ← guard (faults.LengthRange field n) (nat_lt n 4 || nat_lt 65534 n) (tt {0})
   Ok n
 
 -- there are so many bytes
 abbrev pub enough : ℕ → List ℕ → Result (Unit {0}) RequestFault
-enough need bytes = guard (faults.Short (length bytes) need) (nat_lt (length bytes) need)
+enough need bytes =
+    guard (faults.Short (length bytes) need) (nat_lt (length bytes) need) (tt {0})
 
 -- the unit is null
 abbrev pub is_null : ℕ → Bool
@@ -113,11 +100,13 @@ no_early field (Some at) = Err (faults.EarlyNull field at)
 -- the name of these units, of which the last is to be null, and no other
 unfoldable pub name_of : Field → List ℕ → Result (List ℕ) RequestFault
 name_of field units = do
-  a ← guard (faults.NoNull field) (not (is_null (slice_index units (length units - 1))))
+  a ← guard (faults.NoNull field)
+      (not (is_null (slice_index units (length units - 1)))) (tt {0})
   b ← no_early field (position is_null (but_last units))
   Ok (but_last units)
 
--- What some bytes say as a request, or the first fault. Bytes behind the second name are left unread.
+-- What some bytes say as a request, or the first fault. Bytes behind the second name are left
+-- unread.
 unfoldable pub request_at : List ℕ → Result Request RequestFault
 request_at bytes = do
   a ← enough 12 bytes
@@ -125,5 +114,6 @@ request_at bytes = do
   m ← length_of fields.Destination (number_at 4 bytes)
   b ← enough (12 + n + m) bytes
   source ← name_of fields.Source (units_of (slice_range bytes 12 (12 + n)))
-  destination ← name_of fields.Destination (units_of (slice_range bytes (12 + n) (12 + n + m)))
+  destination ← name_of fields.Destination
+      (units_of (slice_range bytes (12 + n) (12 + n + m)))
   Ok (record { source = source; destination = destination; flags = number_at 8 bytes })

@@ -1,5 +1,5 @@
-//! The request of FSCTL_SIS_COPYFILE: its bytes read, or their first fault named, and written again.
-//! `specs/` says how a request is spelled, and how any bytes are read.
+//! The request of FSCTL_SIS_COPYFILE: its bytes read, or their first fault named, and written
+//! again. `specs/` says how a request is spelled, and how any bytes are read.
 #![tactic(auto)]
 
 mod fault;

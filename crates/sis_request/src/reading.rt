@@ -1,6 +1,7 @@
 //! Reads a request from left to right.
-ghost use Rattle.std.specs.Prelude.{◌≡◌, ◌+◌, ◌-◌, ◌%◌, ◌<◌, ◌≤◌, length, take, position, slice_range, IfOk};
-ghost use Rattle.sis_request.specs.Request.{Gives, IsLentName, units_of, request_of, is_null, number_at};
+ghost use Rattle.std.specs.Prelude.{Some, ◌≡◌, ◌+◌, ◌-◌, ◌%◌, ◌<◌, ◌≤◌, length, take, position, slice_range, IfOk};
+ghost use Rattle.sis_reading.specs.Steps.{Gives};
+ghost use Rattle.sis_request.specs.Request.{IsLentName, units_of, request_of, is_null, number_at};
 ghost use Rattle.sis_request.specs.Request.{enough, length_of, name_of, request_at};
 
 use crate::{CopyRequest, Field, RequestFault};
@@ -15,7 +16,7 @@ const MAX_NAME_LEN: u32 = 65_534;
 
 /// There are so many bytes.
 fn enough(bytes: &[u8], need: usize) -> Result<(), RequestFault>
-    ensures value { Gives (λ x. x) result (enough need bytes.now) }
+    ensures value { Gives Some (λ x. x) result (enough need bytes.now) }
     ensures ok { IfOk result (λ x. need ≤ length bytes.now) }
 {
     if bytes.len() < need {
@@ -30,7 +31,7 @@ fn enough(bytes: &[u8], need: usize) -> Result<(), RequestFault>
 /// The length of a name, in bytes with the null.
 #[tactic(auto, unfolding(crate::specs::Request::length_of))]
 fn length_of(field: Field, value: u32) -> Result<usize, RequestFault>
-    ensures value { Gives (λ n. n) result (length_of field value) }
+    ensures value { Gives Some (λ n. n) result (length_of field value) }
     ensures same { IfOk result (λ n. n ≡ value) }
     ensures even { IfOk result (λ n. n % 2 ≡ 0) }
     ensures low { IfOk result (λ n. 4 ≤ n) }
@@ -67,7 +68,8 @@ fn name_of(field: Field, bytes: &[u8]) -> Result<&[u8], RequestFault>
     requires even { length bytes.now % 2 ≡ 0 }
     requires low { 4 ≤ length bytes.now }
     requires high { length bytes.now ≤ 65534 }
-    ensures value { Gives (λ name. units_of name.now) result (name_of field (units_of bytes.now)) }
+    ensures value { Gives Some (λ name. units_of name.now) result
+        (name_of field (units_of bytes.now)) }
     ensures bytes { IfOk result (λ name. name.now ≡ take (length bytes.now - 2) bytes.now) }
     ensures name { IfOk result (λ name. IsLentName name.now) }
 {
@@ -90,7 +92,7 @@ fn name_of(field: Field, bytes: &[u8]) -> Result<&[u8], RequestFault>
 /// are this project's own.
 #[tactic(auto, unfolding(crate::specs::Request::request_at))]
 pub fn read(bytes: &[u8]) -> Result<CopyRequest<'_>, RequestFault>
-    ensures value { Gives (λ r. request_of r.source.now r.destination.now r.flags) result
+    ensures value { Gives Some (λ r. request_of r.source.now r.destination.now r.flags) result
         (request_at bytes.now) }
     ensures source { IfOk result (λ r. r.source.now
         ≡ slice_range bytes.now 12 (10 + number_at 0 bytes.now)) }
