@@ -1,5 +1,4 @@
 pub mod LineLemmas
-pub mod NumberLemmas
 pub mod PrintLemmas
 pub mod ReadLemmas
 pub mod TakenLemmas

@@ -1,15 +1,17 @@
 -- One more line of a script.
-use Rattle.std.proofs.Common.{◌≡◌, ℕ, ◌+◌, ◌<◌, ◌≤◌, List, ◌∷◌, length, Result, Ok, Err, OnOk, false, refl, arith}
+use Rattle.std.proofs.Common.{◌≡◌, ℕ, ◌+◌, ◌<◌, ◌≤◌, List, ◌∷◌, length, replicate, Result, Ok, Err, OnOk, false, refl, arith, lit<}
 use Rattle.std.proofs.lemmas.Bool.Decides.{nat_tests}
-use Rattle.std.proofs.lemmas.List.{append_assoc, length-append}
+use Rattle.std.proofs.lemmas.List.{append_assoc, length-append, length-replicate}
 use Rattle.std.proofs.lemmas.List.Elements.{All-append}
 use Rattle.std.specs.Result.{is_err}
-use Rattle.sis_script.specs.Script.{Parts, IsClient, IsBuilt, AreAllowed, joined, with_front, parts_from, item_of}
+use Rattle.sis_script.specs.Script.{Parts, IsClient, IsBuilt, AreAllowed, joined, with_front, parts_from, item_of, script_of}
 use Rattle.sis_script.specs.Views.{parts_in}
 use Rattle.sis_script.specs.declared.commands.Item.{Item}
 use Rattle.sis_script.specs.declared.commands.Item.TheVariants as item
 use Rattle.sis_script.specs.declared.faults.ScriptFault.{ScriptFault}
-use Rattle.sis_script.specs.declared.limits.TheConstants.{MOST_LINES}
+use Rattle.sis_script.specs.declared.faults.ScriptFault.TheVariants as fault
+use Rattle.sis_script.specs.declared.faults.ScriptLimit.TheVariants as limit
+use Rattle.sis_script.specs.declared.limits.TheConstants.{MOST_LINES, MOST_SCRIPT_BYTES}
 
 pub made : {A E : Type 0} (P : Type 0) (r : Result A E) → is_err r ≡ false → OnOk r P → P
 made P (Ok x) h p = p
@@ -47,3 +49,18 @@ allowed_more p q a b = record {
   built = All-append (λ l. IsBuilt l.command) p.lines q.lines a.built b.built;
   turns = All-append IsClient p.schedule q.schedule a.turns b.turns;
 }
+
+-- bytes of any length
+of_length : (n : ℕ) → (bytes : List ℕ) × (length bytes ≡ n)
+of_length n = (replicate n 0, length-replicate n 0)
+
+above : (n : ℕ) (bytes : List ℕ) → length bytes ≡ n → MOST_SCRIPT_BYTES < n
+    → script_of bytes ≡ Err (fault.Limit limit.Bytes (MOST_SCRIPT_BYTES + 1))
+above n bytes is more = grind (arith, nat_tests)
+
+-- some bytes are too many for a script
+pub too_long : (bytes : List ℕ)
+    × (script_of bytes ≡ Err (fault.Limit limit.Bytes (MOST_SCRIPT_BYTES + 1)))
+too_long =
+    let long = of_length (MOST_SCRIPT_BYTES + 1) in
+    (long.0, above (MOST_SCRIPT_BYTES + 1) long.0 long.1 (lit< tt))

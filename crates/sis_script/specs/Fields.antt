@@ -1,16 +1,14 @@
 -- The fields of a line. A reading of a field gives its value and what is left of the line.
-use Rattle.std.specs.Prelude.{ℕ, ◌+◌, ◌^◌, ◌==◌, Bool, true, false, not, ◌&&◌, if◌then◌else◌, List, [], ◌∷◌, length, take, drop, nat_lt, nat_eq, codes, slice_index, position, unwrap_or, Option, Some, None, Result, Ok, Err}
+use Rattle.std.specs.Prelude.{ℕ, ◌+◌, ◌==◌, Bool, true, false, ◌&&◌, if◌then◌else◌, List, [], ◌∷◌, length, take, drop, nat_lt, nat_eq, codes, slice_index, position, unwrap_or, Option, Some, None, Result, Ok, Err}
 use Rattle.std.specs.Str.{is_utf8}
-use Rattle.std.specs.Char.{is_ascii_digit}
 use Rattle.std.specs.Cmp.Lexicographic.{pointwise}
 use Rattle.std.specs.Int.{from_be_bytes, w32}
-use Rattle.std.specs.List.{list_all}
-use Rattle.std.specs.Str.Parse.{digits_value}
 use Rattle.hex.specs.Hex.{decode_of, decode_sized}
 use Rattle.sis_name.specs.Name.{name_fault}
 use Rattle.sis_name.specs.Units.{text_units}
 use Rattle.sis_name.specs.declared.fault.NameFault.{NameFault}
-use Rattle.sis_script.specs.Steps.{◌>>=◌}
+use Rattle.sis_reading.specs.Number.{plain_number}
+use Rattle.sis_reading.specs.Steps.{◌>>=◌}
 use Rattle.sis_script.specs.declared.faults.LineKind.{LineKind}
 use Rattle.sis_script.specs.declared.faults.LineKind.TheVariants as kind
 
@@ -51,17 +49,6 @@ field_of read text = do
 -- the word is this text
 abbrev pub is_word : List ℕ → List ℕ → Bool
 is_word word text = pointwise nat_eq word text
-
--- digits, at least one, and no zero before others
-abbrev pub is_plain : List ℕ → Bool
-is_plain [] = false
-is_plain (b ∷ bs) = not (b == 48 && nat_lt 0 (length bs)) && list_all is_ascii_digit (b ∷ bs)
-
--- the number below 2^64 whose one spelling this is
-abbrev pub number_of : List ℕ → Option ℕ
-number_of word =
-    if is_plain word && nat_lt (digits_value 10 word) (2 ^ 64) then Some (digits_value 10 word)
-    else None
 
 -- the units themselves, if they have no fault as a name
 abbrev pub unless_fault : Option NameFault → List ℕ → Result (List ℕ) LineKind
@@ -115,7 +102,7 @@ number_in (Some n) = Ok n
 
 -- a field that is a number
 abbrev pub number_at : List ℕ → Result (ℕ × List ℕ) LineKind
-number_at text = field_of (λ word. number_in (number_of word)) text
+number_at text = field_of (λ word. number_in (plain_number word)) text
 
 -- whether an open may write: `w`, or `r` where it only reads
 abbrev pub mode_of : List ℕ → Result Bool LineKind

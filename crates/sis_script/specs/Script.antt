@@ -6,10 +6,11 @@ use Rattle.std.specs.List.{All, slice_split}
 use Rattle.sis_model.specs.declared.command.Command.{Command}
 use Rattle.sis_model.specs.declared.command.Command.TheVariants as command
 use Rattle.sis_model.specs.declared.history.Line.{Line}
-use Rattle.sis_script.specs.Steps.{◌>>=◌}
-use Rattle.sis_script.specs.Fields.{is_space, field_at, word_at, number_of}
+use Rattle.sis_reading.specs.Number.{plain_number}
+use Rattle.sis_reading.specs.Steps.{◌>>=◌}
+use Rattle.sis_script.specs.Fields.{is_space, field_at, word_at}
 use Rattle.sis_script.specs.Verbs.{verb_at, fields_at}
-use Rattle.sis_script.specs.declared.limits.TheConstants.{MOST_BYTES, MOST_LINES, LAST_CLIENT}
+use Rattle.sis_script.specs.declared.limits.TheConstants.{MOST_SCRIPT_BYTES, MOST_LINES, LAST_CLIENT}
 use Rattle.sis_script.specs.declared.faults.LineKind.{LineKind}
 use Rattle.sis_script.specs.declared.faults.LineKind.TheVariants as kind
 use Rattle.sis_script.specs.declared.faults.ScriptFault.{ScriptFault}
@@ -32,7 +33,7 @@ client_in (Some n) = if is_client n then Ok n else Err kind.Client
 
 -- the client that a word spells
 abbrev pub client_of : List ℕ → Result ℕ LineKind
-client_of word = client_in (number_of word)
+client_of word = client_in (plain_number word)
 
 -- this client, and those behind it
 abbrev pub with_client : ℕ → Result (List ℕ) LineKind → Result (List ℕ) LineKind
@@ -107,7 +108,8 @@ parts_from n (l ∷ ls) =
 -- What some bytes say as a script. Lines end with LF or CR LF, and the last may end with the bytes.
 abbrev pub script_of : List ℕ → Result Parts ScriptFault
 script_of bytes =
-    if nat_lt MOST_BYTES (length bytes) then Err (fault.Limit limit.Bytes (MOST_BYTES + 1))
+    if nat_lt MOST_SCRIPT_BYTES (length bytes)
+    then Err (fault.Limit limit.Bytes (MOST_SCRIPT_BYTES + 1))
     else parts_from 0 (lines bytes)
 
 -- the bytes fail for this reason, unless memory or the source did

@@ -2,7 +2,7 @@
 use Rattle.std.specs.Prelude.{ℕ, Bool, true, false, if◌then◌else◌, List, [], ◌∷◌, codes, Option, Some, None, Result, Ok, Err}
 use Rattle.sis_model.specs.declared.command.Command.{Command}
 use Rattle.sis_model.specs.declared.command.Command.TheVariants as command
-use Rattle.sis_script.specs.Steps.{◌>>=◌}
+use Rattle.sis_reading.specs.Steps.{◌>>=◌}
 use Rattle.sis_script.specs.Fields.{is_word, field_of, end_at, number_at, name_at, hex_at, mode_at, code_at}
 use Rattle.sis_script.specs.declared.faults.LineKind.{LineKind}
 use Rattle.sis_script.specs.declared.faults.LineKind.TheVariants as kind

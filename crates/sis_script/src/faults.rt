@@ -2,34 +2,45 @@
 use thiserror::Error;
 
 /// What is wrong with a line, for the first wrong field from the left.
-#[derive(Clone, Copy, Debug, PartialEq, Eq)]
+#[derive(Clone, Copy, Debug, PartialEq, Eq, Error)]
 pub enum LineKind {
     /// The line is not UTF-8. This is tried before all fields.
+    #[error("encoding")]
     Encoding,
     /// A client is no number that a client may have.
+    #[error("client")]
     Client,
     /// There is no such verb, or none that is carried out yet.
+    #[error("verb")]
     Verb,
     /// A name is not in quotation marks, or not one that a file may have.
+    #[error("name")]
     Name,
     /// Bytes are neither `-` nor pairs of hex digits.
+    #[error("hex")]
     Hex,
     /// A number is not below 2^64, or not spelled by digits without a leading zero.
+    #[error("number")]
     Number,
     /// The mode of an open is neither `r` nor `w`.
+    #[error("mode")]
     Mode,
     /// A control's code is not eight hex digits.
+    #[error("code")]
     Code,
     /// A field is missing, or something follows the last one.
+    #[error("fields")]
     Fields,
 }
 
 /// Of what a script has too much.
-#[derive(Clone, Copy, Debug, PartialEq, Eq)]
+#[derive(Clone, Copy, Debug, PartialEq, Eq, Error)]
 pub enum ScriptLimit {
     /// Bytes. This is found before any line is read.
+    #[error("bytes")]
     Bytes,
     /// Lines, skipped ones too.
+    #[error("lines")]
     Lines,
 }
 
@@ -40,7 +51,7 @@ pub enum ScriptFault {
     #[error("the source failed")]
     Source,
     /// A line is wrong, and none before it.
-    #[error("line {line} of the script: {kind:?}")]
+    #[error("line {line} of the script: {kind}")]
     Line {
         /// The line's number, from 1.
         line: u64,
@@ -48,7 +59,7 @@ pub enum ScriptFault {
         kind: LineKind,
     },
     /// The script is too long.
-    #[error("the script has {count} or more: {kind:?}")]
+    #[error("the script has {count} {kind} or more")]
     Limit {
         /// In what it is too long.
         kind: ScriptLimit,

@@ -1,14 +1,11 @@
 //! The fields of a line. Each reader takes what is left of the line, and gives a value and what
 //! is left behind it.
-ghost use Rattle.std.specs.Prelude.{◌≡◌, ◌==◌, ◌<◌, ◌^◌, ◌∷◌, [], length, position, nat_lt};
-ghost use Rattle.std.specs.Prelude.{true, false, if◌then◌else◌, Some, None, IfSome, MatchOption};
-ghost use Rattle.std.specs.Char.{is_ascii_digit};
-ghost use Rattle.std.specs.List.{list_all, slice_split};
-ghost use Rattle.std.specs.Str.{is_utf8};
-ghost use Rattle.std.specs.Str.Parse.{digits_value};
-ghost use Rattle.sis_script.specs.Steps.{Gives};
-ghost use Rattle.sis_script.specs.Fields.{field_at, end_at, word_at, quoted_at};
-ghost use Rattle.sis_script.specs.Fields.{is_plain, number_of, number_in, number_at};
+ghost use Rattle.std.specs.Prelude.{◌≡◌, ◌==◌, ◌<◌, ◌∷◌, [], length, position, IfSome, MatchOption};
+ghost use Rattle.std.specs.List.{slice_split};
+ghost use Rattle.sis_reading.specs.Number.{plain_number};
+ghost use Rattle.sis_reading.specs.Steps.{Gives};
+ghost use Rattle.sis_script.specs.Steps.{named};
+ghost use Rattle.sis_script.specs.Fields.{field_at, end_at, word_at, quoted_at, number_in, number_at};
 ghost use Rattle.sis_script.specs.Fields.{name_of, name_at, hex_of, hex_at};
 ghost use Rattle.sis_script.specs.Fields.{mode_of, mode_at, code_of, code_at};
 
@@ -16,12 +13,12 @@ use crate::faults::{LineFault, LineKind};
 use hex::FromHex;
 use sis_model::Bytes;
 use sis_name::{Name, NameFault};
+use sis_reading::{plain_number, text_of};
 use std::alloc::Global;
-use std::str;
 
 // What stands behind the space that begins a field.
 pub(crate) fn field_start(text: &[u8]) -> Result<&[u8], LineFault>
-    ensures { Gives (λ rest. rest.now) result (field_at text.now) }
+    ensures { Gives named (λ rest. rest.now) result (field_at text.now) }
 {
     match text {
         [b' ', rest @ ..] => Ok(rest),
@@ -31,7 +28,7 @@ pub(crate) fn field_start(text: &[u8]) -> Result<&[u8], LineFault>
 
 // Nothing follows the last field.
 pub(crate) fn line_end(text: &[u8]) -> Result<(), LineFault>
-    ensures { Gives (λ rest. []) result (end_at text.now) }
+    ensures { Gives named (λ rest. []) result (end_at text.now) }
 {
     if text.is_empty() {
         Ok(())
@@ -71,57 +68,9 @@ pub(crate) fn word_of(text: &[u8]) -> (&[u8], &[u8])
     }
 }
 
-// The text that the bytes are, if they are UTF-8.
-pub(crate) fn text_of(bytes: &[u8]) -> Option<&str>
-    ensures { MatchOption result (is_utf8 bytes.now ≡ false)
-        (λ text. (text.now ≡ bytes.now) × (is_utf8 bytes.now ≡ true)) }
-{
-    match str::from_utf8(bytes) {
-        Ok(text) => Some(text),
-        Err(_) => None,
-    }
-}
-
-fn all_digits(word: &[u8]) -> bool
-    ensures { result ≡ list_all is_ascii_digit word.now }
-{
-    word.iter().all(|b| b.is_ascii_digit())
-}
-
-fn is_plain_number(word: &[u8]) -> bool
-    ensures { result ≡ is_plain word.now }
-{
-    match word {
-        [] => false,
-        [b'0', _, ..] => false,
-        _ => all_digits(word),
-    }
-}
-
-fn value_of(word: &[u8]) -> Option<u64>
-    requires { is_plain word.now ≡ true }
-    ensures { result ≡ (if nat_lt (digits_value 10 word.now) (2 ^ 64)
-        then Some (digits_value 10 word.now) else None) }
-{
-    match text_of(word) {
-        Some(text) => text.parse::<u64>().ok(),
-        None => None,
-    }
-}
-
-pub(crate) fn number(word: &[u8]) -> Option<u64>
-    ensures { result ≡ number_of word.now }
-{
-    if is_plain_number(word) {
-        value_of(word)
-    } else {
-        None
-    }
-}
-
 // What stands between two quotation marks, and the rest behind the second.
 fn quoted(text: &[u8]) -> Result<(&[u8], &[u8]), LineFault>
-    ensures { Gives (λ found. (found.0.now, found.1.now)) result (quoted_at text.now) }
+    ensures { Gives named (λ found. (found.0.now, found.1.now)) result (quoted_at text.now) }
 {
     match text {
         [b'"', rest @ ..] => match place_of(rest, b'"') {
@@ -133,7 +82,7 @@ fn quoted(text: &[u8]) -> Result<(&[u8], &[u8]), LineFault>
 }
 
 fn name_of_bytes(alloc: Global, bytes: &[u8]) -> Result<Name, LineFault>
-    ensures { Gives (λ name. name) result (name_of bytes.now) }
+    ensures { Gives named (λ name. name) result (name_of bytes.now) }
 {
     let Some(text) = text_of(bytes) else {
         return Err(LineFault::Wrong(LineKind::Name));
@@ -147,7 +96,7 @@ fn name_of_bytes(alloc: Global, bytes: &[u8]) -> Result<Name, LineFault>
 
 #[tactic(auto, unfolding(crate::specs::Fields::name_at))]
 pub(crate) fn name_field(alloc: Global, text: &[u8]) -> Result<(Name, &[u8]), LineFault>
-    ensures { Gives (λ found. (found.0, found.1.now)) result (name_at text.now) }
+    ensures { Gives named (λ found. (found.0, found.1.now)) result (name_at text.now) }
 {
     let start = field_start(text)?;
     let (inside, rest) = quoted(start)?;
@@ -156,7 +105,7 @@ pub(crate) fn name_field(alloc: Global, text: &[u8]) -> Result<(Name, &[u8]), Li
 }
 
 fn bytes_of_word(alloc: Global, word: &[u8]) -> Result<Bytes, LineFault>
-    ensures { Gives (λ bytes. bytes) result (hex_of word.now) }
+    ensures { Gives named (λ bytes. bytes) result (hex_of word.now) }
 {
     if word.len() == 1 && word[0] == b'-' {
         return Ok(Bytes::from_vec(Vec::new(alloc)));
@@ -173,7 +122,7 @@ fn bytes_of_word(alloc: Global, word: &[u8]) -> Result<Bytes, LineFault>
 
 #[tactic(auto, unfolding(crate::specs::Fields::field_of))]
 pub(crate) fn hex_field(alloc: Global, text: &[u8]) -> Result<(Bytes, &[u8]), LineFault>
-    ensures { Gives (λ found. (found.0, found.1.now)) result (hex_at text.now) }
+    ensures { Gives named (λ found. (found.0, found.1.now)) result (hex_at text.now) }
 {
     let (word, rest) = word_of(field_start(text)?);
     let bytes = bytes_of_word(alloc, word)?;
@@ -181,9 +130,9 @@ pub(crate) fn hex_field(alloc: Global, text: &[u8]) -> Result<(Bytes, &[u8]), Li
 }
 
 fn number_of_word(word: &[u8]) -> Result<u64, LineFault>
-    ensures { Gives (λ number. number) result (number_in (number_of word.now)) }
+    ensures { Gives named (λ number. number) result (number_in (plain_number word.now)) }
 {
-    match number(word) {
+    match plain_number(word) {
         Some(number) => Ok(number),
         None => Err(LineFault::Wrong(LineKind::Number)),
     }
@@ -191,7 +140,7 @@ fn number_of_word(word: &[u8]) -> Result<u64, LineFault>
 
 #[tactic(auto, unfolding(crate::specs::Fields::field_of))]
 pub(crate) fn number_field(text: &[u8]) -> Result<(u64, &[u8]), LineFault>
-    ensures { Gives (λ found. (found.0, found.1.now)) result (number_at text.now) }
+    ensures { Gives named (λ found. (found.0, found.1.now)) result (number_at text.now) }
 {
     let (word, rest) = word_of(field_start(text)?);
     let number = number_of_word(word)?;
@@ -199,7 +148,7 @@ pub(crate) fn number_field(text: &[u8]) -> Result<(u64, &[u8]), LineFault>
 }
 
 fn mode_of_word(word: &[u8]) -> Result<bool, LineFault>
-    ensures { Gives (λ write. write) result (mode_of word.now) }
+    ensures { Gives named (λ write. write) result (mode_of word.now) }
 {
     match word {
         b"r" => Ok(false),
@@ -211,7 +160,7 @@ fn mode_of_word(word: &[u8]) -> Result<bool, LineFault>
 // Whether an open may write.
 #[tactic(auto, unfolding(crate::specs::Fields::field_of))]
 pub(crate) fn mode_field(text: &[u8]) -> Result<(bool, &[u8]), LineFault>
-    ensures { Gives (λ found. (found.0, found.1.now)) result (mode_at text.now) }
+    ensures { Gives named (λ found. (found.0, found.1.now)) result (mode_at text.now) }
 {
     let (word, rest) = word_of(field_start(text)?);
     let write = mode_of_word(word)?;
@@ -219,7 +168,7 @@ pub(crate) fn mode_field(text: &[u8]) -> Result<(bool, &[u8]), LineFault>
 }
 
 fn code_of_word(word: &[u8]) -> Result<u32, LineFault>
-    ensures { Gives (λ code. code) result (code_of word.now) }
+    ensures { Gives named (λ code. code) result (code_of word.now) }
 {
     match <[u8; 4]>::from_hex(word) {
         Ok(bytes) => Ok(u32::from_be_bytes(bytes)),
@@ -229,7 +178,7 @@ fn code_of_word(word: &[u8]) -> Result<u32, LineFault>
 
 #[tactic(auto, unfolding(crate::specs::Fields::field_of))]
 pub(crate) fn code_field(text: &[u8]) -> Result<(u32, &[u8]), LineFault>
-    ensures { Gives (λ found. (found.0, found.1.now)) result (code_at text.now) }
+    ensures { Gives named (λ found. (found.0, found.1.now)) result (code_at text.now) }
 {
     let (word, rest) = word_of(field_start(text)?);
     let code = code_of_word(word)?;

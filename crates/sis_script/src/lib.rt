@@ -17,6 +17,6 @@ mod tests;
 mod verbs;
 
 pub use faults::{LineKind, PrintFault, ScriptFault, ScriptLimit};
-pub use limits::{LAST_CLIENT, MOST_BYTES, MOST_LINES};
+pub use limits::{LAST_CLIENT, MOST_LINES, MOST_SCRIPT_BYTES};
 pub use printing::print_history;
 pub use reading::{Script, read_script};

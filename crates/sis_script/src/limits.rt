@@ -1,7 +1,7 @@
 //! How much a script may hold.
 
 /// The greatest length of a script, in bytes.
-pub const MOST_BYTES: usize = 16_777_216;
+pub const MOST_SCRIPT_BYTES: usize = 16_777_216;
 
 /// The greatest number of its lines. Skipped lines count too.
 pub const MOST_LINES: u64 = 4096;

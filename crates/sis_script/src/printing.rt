@@ -41,9 +41,10 @@ fn entry_line(alloc: Global, entry: &Entry) -> Result<String, AllocError>
 }
 
 fn print_entry<K: Sink>(alloc: Global, entry: &Entry, sink: &mut K) -> Result<(), PrintFault>
-    ensures ok { OnOk result (Appended (K.held sink.old) (K.held sink.new) (entry_text entry.now)) }
+    ensures ok { OnOk result
+        (Appended (K.written sink.old) (K.written sink.new) (entry_text entry.now)) }
     ensures err { OnErr result
-        (AppendedFront (K.held sink.old) (K.held sink.new) (entry_text entry.now)) }
+        (AppendedFront (K.written sink.old) (K.written sink.new) (entry_text entry.now)) }
     ensures cause { IsErrOf result PrintFault.Sink → Rose (K.faults sink.old) (K.faults sink.new) }
     ensures later { K.faults sink.old ≤ K.faults sink.new }
 {
@@ -65,9 +66,9 @@ pub fn print_history<K: Sink>(
     sink: &mut K,
 ) -> Result<(), PrintFault>
     ensures ok { OnOk result
-        (Appended (K.held sink.old) (K.held sink.new) (printed history.now.entries)) }
+        (Appended (K.written sink.old) (K.written sink.new) (printed history.now.entries)) }
     ensures err { OnErr result
-        (AppendedFront (K.held sink.old) (K.held sink.new) (printed history.now.entries)) }
+        (AppendedFront (K.written sink.old) (K.written sink.new) (printed history.now.entries)) }
     ensures cause { IsErrOf result PrintFault.Sink → Rose (K.faults sink.old) (K.faults sink.new) }
     ensures later { K.faults sink.old ≤ K.faults sink.new }
 {

@@ -1,5 +1,5 @@
 //! Scripts, read whole and then line by line.
-ghost use Rattle.std.specs.Prelude.{◌≡◌, ◌<◌, ◌≤◌, ◌+◌, ◌++◌, ◌∷◌, [], length};
+ghost use Rattle.std.specs.Prelude.{◌≡◌, ◌<◌, ◌≤◌, ◌+◌, ◌++◌, ◌∷◌, ℕ, List, [], length};
 ghost use Rattle.std.specs.Prelude.{Some, MatchOption, IfSome, IfOk, OnOk, IsErrOf};
 ghost use Rattle.std.specs.List.{All};
 ghost use Rattle.std.specs.Str.Lines.{lines, strip_carriage_return};
@@ -12,7 +12,7 @@ ghost use Rattle.sis_script.specs.Taken.{HasRead, TakesAtMost};
 use crate::commands::{Item, read_item};
 use crate::faults::{LineFault, ScriptFault, ScriptLimit};
 use crate::fields::split_once;
-use crate::limits::{MOST_BYTES, MOST_LINES};
+use crate::limits::{MOST_LINES, MOST_SCRIPT_BYTES};
 use sis_disk::Source;
 use sis_model::Line;
 use std::alloc::{AllocError, Global};
@@ -111,17 +111,17 @@ fn read_input<S: Source>(alloc: Global, source: &mut S) -> Result<Vec<u8>, Input
     ensures all { IfOk result (λ all. HasRead (S.left source.old) (S.left source.new) all.items) }
     ensures end { IfOk result (λ all. IfSome (S.left source.old) (λ bytes. bytes ≡ all.items)) }
     ensures long { IsErrOf result InputFault.TooLong
-        → IfSome (S.left source.old) (λ bytes. MOST_BYTES < length bytes) }
-    ensures short { IfOk result (λ all. length all.items ≤ MOST_BYTES) }
-    ensures taken { TakesAtMost (MOST_BYTES + 1) (S.left source.old) (S.left source.new) }
+        → IfSome (S.left source.old) (λ bytes. MOST_SCRIPT_BYTES < length bytes) }
+    ensures short { IfOk result (λ all. length all.items ≤ MOST_SCRIPT_BYTES) }
+    ensures taken { TakesAtMost (MOST_SCRIPT_BYTES + 1) (S.left source.old) (S.left source.new) }
     ensures later { S.faults source.old ≤ S.faults source.new }
     ensures cause { IsErrOf result InputFault.Source
         → Rose (S.faults source.old) (S.faults source.new) }
 {
     let mut all = Vec::new(alloc);
     let mut buffer = [0u8; 4096];
-    'reading: while all.len() <= MOST_BYTES {
-        let room = (MOST_BYTES + 1 - all.len()).min(4096);
+    'reading: while all.len() <= MOST_SCRIPT_BYTES {
+        let room = (MOST_SCRIPT_BYTES + 1 - all.len()).min(4096);
         let Ok(count) = source.read(&mut buffer[..room]) else {
             return Err(InputFault::Source);
         };
@@ -141,9 +141,11 @@ fn read_input<S: Source>(alloc: Global, source: &mut S) -> Result<Vec<u8>, Input
 pub fn read_script<S: Source>(alloc: Global, source: &mut S) -> Result<Script, ScriptFault>
     // What the bytes say, where the source tells them.
     ensures script { IfSome (S.left source.old) (λ bytes. Says parts_of result (script_of bytes)) }
+    // Over every source it is what some bytes say, within the limits.
+    ensures some { (bytes : List ℕ) × Says parts_of result (script_of bytes) }
     ensures ended { IfJudged result
         (IfSome (S.left source.old) (λ bytes. S.left source.new ≡ Some [])) }
-    ensures taken { TakesAtMost (MOST_BYTES + 1) (S.left source.old) (S.left source.new) }
+    ensures taken { TakesAtMost (MOST_SCRIPT_BYTES + 1) (S.left source.old) (S.left source.new) }
 
     // What each script keeps, whether the source tells or not.
     ensures few { IfOk result (λ script. length script.lines.items ≤ MOST_LINES) }
@@ -161,7 +163,7 @@ pub fn read_script<S: Source>(alloc: Global, source: &mut S) -> Result<Script, S
         Err(InputFault::Memory) => Err(ScriptFault::Memory),
         Err(InputFault::TooLong) => Err(ScriptFault::Limit {
             kind: ScriptLimit::Bytes,
-            count: MOST_BYTES as u64 + 1,
+            count: MOST_SCRIPT_BYTES as u64 + 1,
         }),
     }
 }

@@ -1,7 +1,8 @@
 //! The verbs of a script, and the command that each one's fields say.
 ghost use Rattle.std.specs.Prelude.{◌≡◌, true, IfOk};
 ghost use Rattle.sis_script.specs.declared.verbs.Verb.TheVariants as verb;
-ghost use Rattle.sis_script.specs.Steps.{Gives};
+ghost use Rattle.sis_reading.specs.Steps.{Gives};
+ghost use Rattle.sis_script.specs.Steps.{named};
 ghost use Rattle.sis_script.specs.Script.{IsBuilt};
 ghost use Rattle.sis_script.specs.Verbs.{verb_of, is_built, built_of, verb_at, last_name_at};
 ghost use Rattle.sis_script.specs.Verbs.{put_at, open_at, read_at, write_at, size_at, close_at};
@@ -101,7 +102,7 @@ impl Verb {
 }
 
 fn verb_of_word(word: &[u8]) -> Result<Verb, LineFault>
-    ensures value { Gives (λ verb. verb) result (built_of word.now) }
+    ensures value { Gives named (λ verb. verb) result (built_of word.now) }
     ensures built { IfOk result (λ verb. is_built verb ≡ true) }
 {
     match Verb::of_word(word) {
@@ -112,7 +113,7 @@ fn verb_of_word(word: &[u8]) -> Result<Verb, LineFault>
 
 #[tactic(auto, unfolding(crate::specs::Fields::field_of))]
 pub(crate) fn verb_field(text: &[u8]) -> Result<(Verb, &[u8]), LineFault>
-    ensures value { Gives (λ found. (found.0, found.1.now)) result (verb_at text.now) }
+    ensures value { Gives named (λ found. (found.0, found.1.now)) result (verb_at text.now) }
     ensures built { IfOk result (λ found. is_built found.0 ≡ true) }
 {
     let (word, rest) = word_of(field_start(text)?);
@@ -122,7 +123,7 @@ pub(crate) fn verb_field(text: &[u8]) -> Result<(Verb, &[u8]), LineFault>
 
 #[tactic(auto, unfolding(crate::specs::Verbs::last_name_at))]
 fn last_name(alloc: Global, text: &[u8]) -> Result<Name, LineFault>
-    ensures { Gives (λ name. name) result (last_name_at text.now) }
+    ensures { Gives named (λ name. name) result (last_name_at text.now) }
 {
     let (name, rest) = name_field(alloc, text)?;
     line_end(rest)?;
@@ -131,7 +132,7 @@ fn last_name(alloc: Global, text: &[u8]) -> Result<Name, LineFault>
 
 #[tactic(auto, unfolding(crate::specs::Verbs::put_at))]
 fn put(alloc: Global, text: &[u8]) -> Result<Command, LineFault>
-    ensures value { Gives (λ command. command) result (put_at text.now) }
+    ensures value { Gives named (λ command. command) result (put_at text.now) }
     ensures built { IfOk result (λ c. is_built verb.Put ≡ true → IsBuilt c) }
 {
     let (name, rest) = name_field(alloc, text)?;
@@ -142,7 +143,7 @@ fn put(alloc: Global, text: &[u8]) -> Result<Command, LineFault>
 
 #[tactic(auto, unfolding(crate::specs::Verbs::open_at))]
 fn open(alloc: Global, text: &[u8]) -> Result<Command, LineFault>
-    ensures value { Gives (λ command. command) result (open_at text.now) }
+    ensures value { Gives named (λ command. command) result (open_at text.now) }
     ensures built { IfOk result (λ c. is_built verb.Open ≡ true → IsBuilt c) }
 {
     let (name, rest) = name_field(alloc, text)?;
@@ -153,7 +154,7 @@ fn open(alloc: Global, text: &[u8]) -> Result<Command, LineFault>
 
 #[tactic(auto, unfolding(crate::specs::Verbs::read_at))]
 fn read(text: &[u8]) -> Result<Command, LineFault>
-    ensures value { Gives (λ command. command) result (read_at text.now) }
+    ensures value { Gives named (λ command. command) result (read_at text.now) }
     ensures built { IfOk result (λ c. is_built verb.Read ≡ true → IsBuilt c) }
 {
     let (number, rest) = number_field(text)?;
@@ -165,7 +166,7 @@ fn read(text: &[u8]) -> Result<Command, LineFault>
 
 #[tactic(auto, unfolding(crate::specs::Verbs::write_at))]
 fn write(alloc: Global, text: &[u8]) -> Result<Command, LineFault>
-    ensures value { Gives (λ command. command) result (write_at text.now) }
+    ensures value { Gives named (λ command. command) result (write_at text.now) }
     ensures built { IfOk result (λ c. is_built verb.Write ≡ true → IsBuilt c) }
 {
     let (number, rest) = number_field(text)?;
@@ -177,7 +178,7 @@ fn write(alloc: Global, text: &[u8]) -> Result<Command, LineFault>
 
 #[tactic(auto, unfolding(crate::specs::Verbs::size_at))]
 fn size(text: &[u8]) -> Result<Command, LineFault>
-    ensures value { Gives (λ command. command) result (size_at text.now) }
+    ensures value { Gives named (λ command. command) result (size_at text.now) }
     ensures built { IfOk result (λ c. is_built verb.Size ≡ true → IsBuilt c) }
 {
     let (number, rest) = number_field(text)?;
@@ -188,7 +189,7 @@ fn size(text: &[u8]) -> Result<Command, LineFault>
 
 #[tactic(auto, unfolding(crate::specs::Verbs::close_at))]
 fn close(text: &[u8]) -> Result<Command, LineFault>
-    ensures value { Gives (λ command. command) result (close_at text.now) }
+    ensures value { Gives named (λ command. command) result (close_at text.now) }
     ensures built { IfOk result (λ c. is_built verb.Close ≡ true → IsBuilt c) }
 {
     let (number, rest) = number_field(text)?;
@@ -198,7 +199,7 @@ fn close(text: &[u8]) -> Result<Command, LineFault>
 
 #[tactic(auto, unfolding(crate::specs::Verbs::rename_at))]
 fn rename(alloc: Global, text: &[u8]) -> Result<Command, LineFault>
-    ensures value { Gives (λ command. command) result (rename_at text.now) }
+    ensures value { Gives named (λ command. command) result (rename_at text.now) }
     ensures built { IfOk result (λ c. is_built verb.Rename ≡ true → IsBuilt c) }
 {
     let (old, rest) = name_field(alloc, text)?;
@@ -207,7 +208,7 @@ fn rename(alloc: Global, text: &[u8]) -> Result<Command, LineFault>
 }
 
 fn list(alloc: Global, text: &[u8]) -> Result<Command, LineFault>
-    ensures value { Gives (λ command. command) result (list_at text.now) }
+    ensures value { Gives named (λ command. command) result (list_at text.now) }
     ensures built { IfOk result (λ c. is_built verb.List ≡ true → IsBuilt c) }
 {
     let after = if text.is_empty() {
@@ -220,7 +221,7 @@ fn list(alloc: Global, text: &[u8]) -> Result<Command, LineFault>
 
 #[tactic(auto, unfolding(crate::specs::Verbs::fsctl_at))]
 fn fsctl(alloc: Global, text: &[u8]) -> Result<Command, LineFault>
-    ensures value { Gives (λ command. command) result (fsctl_at text.now) }
+    ensures value { Gives named (λ command. command) result (fsctl_at text.now) }
     ensures built { IfOk result (λ c. is_built verb.Fsctl ≡ true → IsBuilt c) }
 {
     let (code, rest) = code_field(text)?;
@@ -231,7 +232,7 @@ fn fsctl(alloc: Global, text: &[u8]) -> Result<Command, LineFault>
 
 // What only has the line's end behind its verb.
 fn bare(command: Command, text: &[u8]) -> Result<Command, LineFault>
-    ensures value { Gives (λ found. found) result (bare_at command text.now) }
+    ensures value { Gives named (λ found. found) result (bare_at command text.now) }
     ensures same { IfOk result (λ found. found ≡ command) }
 {
     line_end(text)?;
@@ -240,7 +241,7 @@ fn bare(command: Command, text: &[u8]) -> Result<Command, LineFault>
 
 // The command of a verb, from what stands behind the verb.
 pub(crate) fn fields(alloc: Global, verb: Verb, text: &[u8]) -> Result<Command, LineFault>
-    ensures value { Gives (λ command. command) result (fields_at verb text.now) }
+    ensures value { Gives named (λ command. command) result (fields_at verb text.now) }
     ensures built { IfOk result (λ command. is_built verb ≡ true → IsBuilt command) }
 {
     match verb {

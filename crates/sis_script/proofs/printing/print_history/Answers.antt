@@ -7,7 +7,7 @@ use Rattle.sis_script.proofs.printing.print_history.Goals as goal
 
 pub loop-entry-preserved : goal.loop-entry-preserved
 loop-entry-preserved g c =
-    let held = g.K.Sink.held in
+    let held = g.K.Sink.written in
     let es = c.as_slice-entry-items.result.now in
     let more = printed-more es c.loop-entry.entry-index c.entry-item.result c.loop-entry-test.true c.entry-item.is in
     record {

@@ -5,6 +5,6 @@ use Rattle.sis_script.proofs.printing.print_history.Given as goal
 
 abbrev pub invariant-loop-entry : goal.invariant-loop-entry
 invariant-loop-entry g l = record {
-  written : Appended (g.K.Sink.held l.fn.sink) (g.K.Sink.held l.sink) (printed (take l.entry-index l.entry-items));
+  written : Appended (g.K.Sink.written l.fn.sink) (g.K.Sink.written l.sink) (printed (take l.entry-index l.entry-items));
   later : g.K.Sink.faults l.fn.sink ≤ g.K.Sink.faults l.sink;
 }
