@@ -1,9 +1,9 @@
 -- What a file's bytes are, and which files a table and the bytes of an image stand for.
-use Rattle.std.proofs.Common.{length-take, length-drop, ◌≡◌, ℕ, zero, suc, ◌+◌, ◌-◌, ◌*◌, ◌<◌, ◌≤◌, Bool, true, false, cond, List, [], ◌∷◌, ◌++◌, length, take, drop, map, flat_map, Option, None, Some, is_some, refl, sym, ap, ap₂, ◌∙◌, arith, append_assoc, append-nil, take-add, drop-drop}
+use Rattle.std.proofs.Common.{◌≡◌, ℕ, zero, suc, ◌+◌, ◌-◌, ◌*◌, ◌<◌, ◌≤◌, Bool, true, false, cond, List, [], ◌∷◌, ◌++◌, take, drop, map, flat_map, Option, None, Some, is_some, refl, sym, ap, ap₂, ◌∙◌, arith, append_assoc, append-nil, take-add, drop-drop}
 use Rattle.std.specs.Prelude.{slice_range, ◌||◌, find}
 use Rattle.std.specs.List.{list_any, range_with_len}
 use Rattle.std.specs.Option.{option_or, option_map}
-use Rattle.std.specs.FinMap.{get, insert, empty, from_entries}
+use Rattle.std.specs.FinMap.{get, insert, from_entries}
 use Rattle.std.specs.BTreeMap.{is_at}
 use Rattle.std.proofs.Math.Bool.{or-false}
 use Rattle.std.proofs.lemmas.Bool.{or_left, or_parts, or_right}
@@ -15,9 +15,9 @@ use Rattle.sis_name.specs.Units.{name_cmp}
 use Rattle.sis_name.proofs.Named.{named, get_named, insert_named}
 use Rattle.sis_table.specs.declared.runs.Run.{Run}
 use Rattle.sis_table.specs.declared.node.Node.{Node}
-use Rattle.sis_disk.specs.declared.layout.Layout.{Layout}
-use Rattle.sis_table.specs.Runs.{block_end, place_end, has_block, has_place, place_of, with_run, with_runs, IsChain}
-use Rattle.sis_table.specs.Volume.{VolumeTable, blocks_of, same_name, has_name, node_named, is_used, empty_table}
+use Rattle.sis_table.specs.Runs.{block_end, has_block, has_place, place_of, with_run, with_runs, IsChain}
+use Rattle.sis_table.specs.Volume.{VolumeTable, blocks_of, has_name, node_named, is_used}
+use Rattle.sis_name.specs.Files.{same_name}
 use Rattle.sis_table.specs.Content.{block_at, run_bytes, mapped_block, content_of, files_of}
 
 -- a run added behind others is found where the others have no block
@@ -84,11 +84,6 @@ blocks_joined live f a p (suc n) h =
 pub chain_rises : (first end : ℕ) (runs : List Run) → IsChain first end runs → first ≤ end
 chain_rises first end [] h = omega arith
 chain_rises first end (r ∷ rs) h = let e = chain_rises (block_end r) end rs h.2 in let f = h.0 in omega arith
-
--- a chain with one more run, which begins where the chain ends
-pub IsChain-more : (first end : ℕ) (runs : List Run) (r : Run) → IsChain first end runs → r.first ≡ end → 1 ≤ r.count → IsChain first (block_end r) (runs ++ r ∷ [])
-IsChain-more first end [] r h begins some = (begins ∙ sym h, some, refl)
-IsChain-more first end (s ∷ ss) r h begins some = (h.0, h.1, IsChain-more (block_end s) end ss r h.2 begins some)
 
 abbrev mapped : List ℕ → List Run → ℕ → List ℕ
 mapped live runs block = mapped_block live (place_of runs block)
@@ -164,10 +159,6 @@ entries_same (n ∷ ns) old new h =
 pub files_of-same : (v : VolumeTable) (old new : List ℕ) → ((place : ℕ) → is_used v.nodes place ≡ true → block_at new place ≡ block_at old place) → files_of v new ≡ files_of v old
 files_of-same v old new h = ap (from_entries {R = name_cmp}) (entries_same v.nodes old new h)
 
--- a table without files stands for none
-pub files_of-empty : (l : Layout) (live : List ℕ) → files_of (empty_table l) live ≡ empty
-files_of-empty l live = refl
-
 -- two names are one
 pub same_test : (a b : List ℕ) → is_at (name_cmp a) b ≡ same_name b a
 same_test a b = is_eq-slice_cmp a b ∙ nat_list_eq_equiv.symm a b
@@ -204,10 +195,6 @@ node_named-has v name = find_any (has_name name) v.nodes
 pub some_mapped : {X Y : Type 0} (f : X → Y) (o : Option X) → is_some (option_map f o) ≡ is_some o
 some_mapped f None = refl
 some_mapped f (Some x) = refl
-
--- a name is among the files where a file has it
-pub find_has : (v : VolumeTable) (name live : List ℕ) → is_some (get (files_of v live) name) ≡ list_any (has_name name) v.nodes
-find_has v name live = ap is_some (get-files_of v live name) ∙ some_mapped (λ (n : Node). content_of n live) (node_named v name) ∙ node_named-has v name
 
 swapped_cond : {X : Type 0} (a b : Bool) (x y z : X) → (a ≡ true → b ≡ true → ⊥) → cond b y (cond a x z) ≡ cond a x (cond b y z)
 swapped_cond true true x y z h = absurd (h refl refl)
@@ -253,7 +240,3 @@ runs_bytes-same (r ∷ rs) old new h =
     ap₂ (λ (x y : List ℕ). x ++ y)
     (run_bytes-same r old new (λ place e. h place (or_left (has_place place r) (list_any (has_place place) rs) e)))
     (runs_bytes-same rs old new (λ place e. h place (or_right (has_place place r) (list_any (has_place place) rs) e)))
-
--- a run inside the bytes has all of its blocks
-pub length-run_bytes : (live : List ℕ) (r : Run) → 4096 * place_end r ≤ length live → length (run_bytes live r) ≡ 4096 * r.count
-length-run_bytes live r le = omega (arith, length-take (4096 * (r.place + r.count) - 4096 * r.place) (drop (4096 * r.place) live), length-drop (4096 * r.place) live)

@@ -8,7 +8,8 @@ use Rattle.std.proofs.lemmas.Bool.Decides.{nat_tests}
 use Rattle.sis_disk.specs.declared.layout.Layout.{Layout}
 use Rattle.sis_table.specs.Edits.{edited, edited_by, made, with_node, with_size, with_map, MayEdit, MayEditBy, MayMake, MayMap, MaySize, IfThere}
 use Rattle.sis_table.specs.Runs.{block_end}
-use Rattle.sis_table.specs.Volume.{VolumeTable, IsTable, IsNode, AreNodes, last_id, has_name, same_name, blocks_of, node_with, empty_table}
+use Rattle.sis_table.specs.Volume.{VolumeTable, IsTable, IsNode, AreNodes, last_id, has_name, blocks_of, node_with, empty_table}
+use Rattle.sis_name.specs.Files.{same_name}
 use Rattle.sis_table.specs.declared.edit.Edit.{Edit}
 use Rattle.sis_table.specs.declared.edit.Edit.TheVariants as edit
 use Rattle.sis_table.specs.declared.node.Node.{Node}

@@ -8,7 +8,9 @@ use Rattle.sis_table.specs.declared.runs.Run.{Run}
 use Rattle.sis_table.specs.declared.node.Node.{Node}
 use Rattle.sis_table.specs.declared.fault.TableFault.{TableFault}
 use Rattle.sis_table.specs.declared.fault.TableFault.TheVariants as table
-use Rattle.sis_table.specs.Reading.{Fails, Gives, Fault, IsWithin, ◌>>=◌, guard, number_at, units_at, named_at, run_at, runs_at, node_at, nodes_at, head_at, table_at}
+use Rattle.sis_table.specs.Reading.{Fault, IsWithin, number_at, units_at, named_at, run_at, runs_at, node_at, nodes_at, head_at, table_at, here, named}
+use Rattle.sis_reading.specs.Steps.{◌>>=◌}
+use Rattle.sis_reading.specs.Steps.{Fails, Gives, guard}
 
 abbrev Below : {A : Type 0} → ℕ → Result A Fault → Type 0
 Below n (Ok x) = ⊤
@@ -21,7 +23,7 @@ then_within : {A B : Type 0} (n : ℕ) (r : Result A Fault) (f : A → Result B 
 then_within n (Ok x) f h k = k x
 then_within n (Err e) f h k = record { below = h.below }
 
-guard_within : {A : Type 0} (n : ℕ) (bytes : List ℕ) (k : TableKind) (wrong : Bool) (x : A) → Within n (guard n bytes k wrong x)
+guard_within : {A : Type 0} (n : ℕ) (bytes : List ℕ) (k : TableKind) (wrong : Bool) (x : A) → Within n (guard (here n bytes k) wrong x)
 guard_within n bytes k true x = record { below = omega arith }
 guard_within n bytes k false x = record { below = tt }
 
@@ -75,14 +77,14 @@ fault_within : {A : Type 0} (n : ℕ) (r : Result A Fault) (at : ℕ) (k : Table
 fault_within n (Ok x) at k h e = absurd cc
 fault_within n (Err f) at k h e = let same : f.0 ≡ at = cc in omega (arith, h.below)
 
-is_within : {A : Type 0} (n : ℕ) (fault : TableFault) (r : Result A Fault) → Within n r → Fails fault r → IsWithin n fault
+is_within : {A : Type 0} (n : ℕ) (fault : TableFault) (r : Result A Fault) → Within n r → Fails (named fault) r → IsWithin n fault
 is_within n (table.At at k) r h e = fault_within n r at k h e
 is_within n table.Memory r h e = tt
 
 -- the same of what a function returned
-all_within : {X Y : Type 0} (n : ℕ) (view : X → Y) (result : Result X TableFault) (r : Result Y Fault) → Within n r → Gives view result r → IfErr result (IsWithin n)
+all_within : {X Y : Type 0} (n : ℕ) (view : X → Y) (result : Result X TableFault) (r : Result Y Fault) → Within n r → Gives named view result r → IfErr result (IsWithin n)
 all_within n view (Ok x) r h e = tt
 all_within n view (Err fault) r h e = is_within n fault r h e
 
-pub read_within : {X : Type 0} (view : X → VolumeTable) (l : Layout) (bytes : List ℕ) (result : Result X TableFault) → Gives view result (table_at l bytes) → IfErr result (IsWithin (length bytes))
+pub read_within : {X : Type 0} (view : X → VolumeTable) (l : Layout) (bytes : List ℕ) (result : Result X TableFault) → Gives named view result (table_at l bytes) → IfErr result (IsWithin (length bytes))
 read_within view l bytes result h = all_within (length bytes) view result (table_at l bytes) (table_within l bytes) h

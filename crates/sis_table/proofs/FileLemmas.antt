@@ -23,7 +23,8 @@ use Rattle.sis_name.specs.Units.{name_cmp, name_ties}
 use Rattle.sis_table.specs.declared.node.Node.{Node}
 use Rattle.sis_table.specs.Edits.{made, with_node}
 use Rattle.sis_table.specs.Index.{IsIndex, AreRising, AreIndexed}
-use Rattle.sis_table.specs.Volume.{has_name, same_name, id_of, last_id}
+use Rattle.sis_table.specs.Volume.{has_name, id_of, last_id}
+use Rattle.sis_name.specs.Files.{same_name}
 use Rattle.sis_table.specs.Spelling.{node_len}
 use Rattle.sis_table.proofs.EditLemmas.{has_id, found_at, position_there}
 

@@ -208,10 +208,6 @@ abbrev pub Scanned : List Bool → List Bool → List Run → ℕ → Type 0
 Scanned first marks runs i = (before : List Run) → Marks first before
     → Marks marks (before ++ take i runs) × (repeats before runs ≡ repeats (before ++ take i runs) (drop i runs))
 
-pub scan_none : (marks : List Bool) (runs : List Run) → Scanned marks marks runs 0
-scan_none marks runs before h =
-    (subst (Marks marks) (sym (append-nil before)) h, ap (λ (rs : List Run). repeats rs runs) (sym (append-nil before)))
-
 -- the next run
 record Next (runs : List Run) (i : ℕ) (r : Run) : Type 0 where
   pub front : take (i + 1) runs ≡ take i runs ++ r ∷ []

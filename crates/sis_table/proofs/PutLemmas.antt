@@ -1,5 +1,5 @@
 -- What the edits that make a file and map its blocks leave of a table.
-use Rattle.std.proofs.Common.{min, max, take, flat_map, ◌≡◌, ℕ, zero, suc, ◌+◌, ◌-◌, ◌<◌, ◌≤◌, Bool, true, false, cond, List, [], ◌∷◌, ◌++◌, length, map, replicate, get_or, Option, None, Some, count_by, refl, sym, ap, ap₂, ◌∙◌, subst, arith}
+use Rattle.std.proofs.Common.{min, max, take, flat_map, ◌≡◌, ℕ, zero, suc, ◌+◌, ◌-◌, ◌<◌, ◌≤◌, Bool, true, false, cond, List, [], ◌∷◌, ◌++◌, length, map, get_or, Option, None, Some, count_by, refl, sym, ap, ap₂, ◌∙◌, subst, arith}
 use Rattle.std.specs.Prelude.{◌==◌, ◌||◌, find}
 use Rattle.std.specs.List.{AllByRecursion, list_any, range_with_len}
 use Rattle.std.specs.FinMap.{insert}
@@ -15,28 +15,15 @@ use Rattle.sis_table.specs.declared.node.Node.{Node}
 use Rattle.sis_table.specs.declared.edit.Edit.{Edit}
 use Rattle.sis_table.specs.declared.edit.Edit.TheVariants as edit
 use Rattle.sis_table.specs.Runs.{block_end, place_end, has_place, can_join, AreRuns, end_of, with_run, with_runs, IsChain}
-use Rattle.sis_table.specs.Volume.{VolumeTable, IsPlaced, IsTable, AreNodes, blocks_of, greatest_size, is_used, used_places, used, data_places, empty_table}
+use Rattle.sis_table.specs.Volume.{VolumeTable, IsPlaced, IsTable, AreNodes, blocks_of, greatest_size, is_used, used_places, used}
 use Rattle.sis_table.specs.Edits.{made, with_size, with_map, with_node, edited, MayMake, MayMap, MaySize, IfThere, MayEdit, edited_by, MayEditBy, map_edit}
 use Rattle.sis_table.specs.Content.{run_bytes, files_of}
 use Rattle.sis_table.proofs.ContentLemmas.{chain_rises, content-put, files_of-made}
 use Rattle.sis_table.proofs.RunLemmas.{AreRuns-with_run, end_of-with_run}
 
--- edits in two parts
-pub edited_by-append : (v : VolumeTable) (es fs : List Edit) → edited_by v (es ++ fs) ≡ edited_by (edited_by v es) fs
-edited_by-append v [] fs = refl
-edited_by-append v (e ∷ es) fs = edited_by-append (edited v e) es fs
-
-may_split : (v : VolumeTable) (es fs : List Edit) → MayEditBy v (es ++ fs) → MayEditBy v es × MayEditBy (edited_by v es) fs
-may_split v [] fs h = (tt, h)
-may_split v (e ∷ es) fs h = let rest = may_split (edited v e) es fs h.1 in ((h.0, rest.0), rest.1)
-
 may_join : (v : VolumeTable) (es fs : List Edit) → MayEditBy v es × MayEditBy (edited_by v es) fs → MayEditBy v (es ++ fs)
 may_join v [] fs h = h.1
 may_join v (e ∷ es) fs h = (h.0.0, may_join (edited v e) es fs (h.0.1, h.1))
-
--- edits in two parts may be made where each part may
-pub MayEditBy-append : (v : VolumeTable) (es fs : List Edit) → (MayEditBy v (es ++ fs) → MayEditBy v es × MayEditBy (edited_by v es) fs) × (MayEditBy v es × MayEditBy (edited_by v es) fs → MayEditBy v (es ++ fs))
-MayEditBy-append v es fs = (may_split v es fs, may_join v es fs)
 
 abbrev AreBelow : ℕ → List Node → Type 0
 AreBelow id nodes = AllByRecursion (λ n. n.id < id) nodes
@@ -96,11 +83,6 @@ if_there P o n e h = subst (λ (p : Option Node). IfThere p P) (sym e) h
 pub put_made_may : (v : VolumeTable) (id : ℕ) (name : List ℕ) (size : ℕ) → IsTable v → MayMake v id name → size ≤ greatest_size → MayEditBy v (edit.Make id name ∷ edit.Size id size ∷ [])
 put_made_may v id name size t make limit =
     (make, (if_there (λ n. MaySize n size) _ (made id name) (find-last id v.nodes (made id name) (ids_below v id t make.fresh) refl) (record { limit = limit; mapped = omega arith }), tt))
-
--- runs with a chain behind them end by the end of the chain
-pub end_of-with_runs : (runs more : List Run) (first end : ℕ) → end_of runs ≤ first → IsChain first end more → end_of (with_runs runs more) ≤ end
-end_of-with_runs runs [] first end le h = let e = h in omega arith
-end_of-with_runs runs (x ∷ xs) first end le h = let e = end_of-with_run runs x in end_of-with_runs (with_run runs x) xs (block_end x) end (omega arith) h.2
 
 maps_may : (v : VolumeTable) (next : ℕ) (n : Node) (first : ℕ) (runs : List Run) → AreBelow n.id v.nodes → end_of n.runs ≤ first → IsChain first (blocks_of n.size) runs
     → AllByRecursion (λ r. (first_place v.layout ≤ r.place) × (place_end r ≤ v.layout.total)) runs → MayEditBy (added v next n) (map (map_edit n.id) runs)
@@ -189,22 +171,6 @@ get-used_places v i lt = get_or-map-range_with_len (is_used v.nodes) (first_plac
 pub length-used_places : (v : VolumeTable) → length (used_places v) ≡ data_blocks v.layout
 length-used_places v = length-map-range_with_len (is_used v.nodes) (first_place v.layout) (data_blocks v.layout)
 
-none_used : (a n : ℕ) → map (is_used []) (range_with_len a n) ≡ replicate n false
-none_used a zero = refl
-none_used a (suc n) = ap (λ (bs : List Bool). false ∷ bs) (none_used (a + 1) n)
-
--- a table without files maps no data block
-pub used_places-empty : (l : Layout) → used_places (empty_table l) ≡ replicate (data_blocks l) false
-used_places-empty l = none_used (first_place l) (data_blocks l)
-
-count_none : (n : ℕ) → count_by (λ b. b) (replicate n false) ≡ 0
-count_none zero = refl
-count_none (suc n) = count_none n
-
--- a table without files maps none
-pub used-empty : (l : Layout) → used (empty_table l) ≡ 0
-used-empty l = ap (count_by (λ b. b)) (used_places-empty l) ∙ count_none (data_blocks l)
-
 -- a chain added behind runs makes runs
 pub AreRuns-with_runs : (runs more : List Run) (first end : ℕ) → AreRuns runs → end_of runs ≤ first → IsChain first end more → AreRuns (with_runs runs more)
 AreRuns-with_runs runs [] first end h le chain = h
@@ -221,14 +187,6 @@ places-with_runs runs (x ∷ xs) place =
     places-with_runs (with_run runs x) xs place
     ∙ ap (λ (b : Bool). b || list_any (has_place place) xs) (places-with_run runs x place)
     ∙ or_assoc (list_any (has_place place) runs) (has_place place x) (list_any (has_place place) xs)
-
--- the places that a put maps
-pub is_used-put : (v : VolumeTable) (id : ℕ) (name : List ℕ) (size : ℕ) (runs : List Run) (place : ℕ) → IsTable v → v.next_id ≤ id
-    → is_used (edited_by v (edit.Make id name ∷ edit.Size id size ∷ map (map_edit id) runs)).nodes place ≡ (is_used v.nodes place || list_any (has_place place) runs)
-is_used-put v id name size runs place t le =
-    ap (λ (w : VolumeTable). is_used w.nodes place) (put_edits v id name size runs t le)
-    ∙ list_any-append (λ n. list_any (has_place place) n.runs) v.nodes (record { id = id; name = name; size = size; version = 1; runs = with_runs [] runs } ∷ [])
-    ∙ ap (λ (b : Bool). is_used v.nodes place || b) (or-false (list_any (has_place place) (with_runs [] runs)) ∙ places-with_runs [] runs place)
 
 -- the file that a put makes, with its bytes
 pub files_of-put : (v : VolumeTable) (id : ℕ) (name : List ℕ) (size : ℕ) (runs : List Run) (live bytes : List ℕ) → IsTable v → MayMake v id name → IsChain 0 (blocks_of size) runs
@@ -274,35 +232,6 @@ pub same_map_over : (f g : ℕ → Bool) (xs : List ℕ) → ((x : ℕ) → f x 
 same_map_over f g [] h = refl
 same_map_over f g (x ∷ xs) h = ap₂ (λ (b : Bool) (bs : List Bool). b ∷ bs) (h x) (same_map_over f g xs h)
 
--- a new file leaves which data blocks are mapped
-pub used_places-make : (v : VolumeTable) (id : ℕ) (name : List ℕ) → used_places (edited v (edit.Make id name)) ≡ used_places v
-used_places-make v id name = same_map_over _ _ (data_places v.layout) (is_used-make v id name)
-
--- so does a size
-pub used_places-size : (v : VolumeTable) (id size : ℕ) → used_places (edited v (edit.Size id size)) ≡ used_places v
-used_places-size v id size = same_map_over _ _ (data_places v.layout) (is_used-size v id size)
-
--- a run that is mapped has its data blocks mapped, and no other
-pub used_places-map : (v : VolumeTable) (id first count at i : ℕ) → MayEdit v (edit.Map id first count at) → i < data_blocks v.layout
-    → get_or (used_places (edited v (edit.Map id first count at))) i false
-    ≡ (get_or (used_places v) i false || has_place (first_place v.layout + i) (record { first = first; count = count; place = at }))
-used_places-map v id first count at i may lt =
-    get-used_places (edited v (edit.Map id first count at)) i lt
-    ∙ is_used-map v id first count at (first_place v.layout + i) may
-    ∙ ap (λ (b : Bool). b || has_place (first_place v.layout + i) (record { first = first; count = count; place = at })) (sym (get-used_places v i lt))
-
--- which data blocks are mapped after a put
-pub used_places-put : (v : VolumeTable) (id : ℕ) (name : List ℕ) (size : ℕ) (runs : List Run) (i : ℕ) → IsTable v → v.next_id ≤ id → i < data_blocks v.layout
-    → get_or (used_places (edited_by v (edit.Make id name ∷ edit.Size id size ∷ map (map_edit id) runs))) i false
-    ≡ (get_or (used_places v) i false || list_any (has_place (first_place v.layout + i)) runs)
-used_places-put v id name size runs i t le lt =
-    let es = edit.Make id name ∷ edit.Size id size ∷ map (map_edit id) runs in
-    let same : (edited_by v es).layout ≡ v.layout = edited_by-layout v es in
-    get-used_places (edited_by v es) i (subst (λ (l : Layout). i < data_blocks l) (sym same) lt)
-    ∙ ap (λ (l : Layout). is_used (edited_by v es).nodes (first_place l + i)) same
-    ∙ is_used-put v id name size runs (first_place v.layout + i) t le
-    ∙ ap (λ (b : Bool). b || list_any (has_place (first_place v.layout + i)) runs) (sym (get-used_places v i lt))
-
 count_cons : (b : Bool) (bs : List Bool) → count_by (λ x. x) (b ∷ bs) ≡ cond b 1 0 + count_by (λ x. x) bs
 count_cons b bs = sum_by-append (λ (x : Bool). cond x 1 0) (b ∷ []) bs ∙ (let e : 0 + cond b 1 0 + count_by (λ (x : Bool). x) bs ≡ cond b 1 0 + count_by (λ (x : Bool). x) bs = omega arith in e)
 
@@ -341,36 +270,9 @@ passing_places r a (suc n) =
     ∙ ap₂ (λ (x y : ℕ). x + y) (one_place r a) (passing_places r (a + 1) n)
     ∙ two_parts a n r.place (place_end r)
 
--- the places of a run, from before it to behind it
-passing_run : (r : Run) (a n : ℕ) → a ≤ r.place → r.place + r.count ≤ a + n → passing (λ i. has_place i r) a n ≡ r.count
-passing_run r a n low high = passing_places r a n ∙ omega arith
-
-there_holds : (P : Node → Type 0) (Q : Type 0) (o : Option Node) → ((n : Node) → P n → Q) → IfThere o P → Q
-there_holds P Q None h there = absurd there
-there_holds P Q (Some n) h there = h n there
-
--- a new file leaves how many data blocks are mapped
-pub used-make : (v : VolumeTable) (id : ℕ) (name : List ℕ) → used (edited v (edit.Make id name)) ≡ used v
-used-make v id name = ap (count_by (λ b. b)) (used_places-make v id name)
-
--- so does a size
-pub used-size : (v : VolumeTable) (id size : ℕ) → used (edited v (edit.Size id size)) ≡ used v
-used-size v id size = ap (count_by (λ b. b)) (used_places-size v id size)
-
 not_both : (v : VolumeTable) (r : Run) → ((q : ℕ) → r.place ≤ q → q < place_end r → is_used v.nodes q ≡ false) → (q : ℕ) → is_used v.nodes q ≡ true → has_place q r ≡ true → ⊥
 not_both v r free q used here =
     let low : r.place ≤ q = grind (arith, nat_tests) in
     let high : q < place_end r = grind (arith, nat_tests) in
     let none = free q low high in
     cc
-
--- a run at places that were not mapped adds its blocks to those that are
-pub used-map : (v : VolumeTable) (id first count at : ℕ) → MayEdit v (edit.Map id first count at) → ((q : ℕ) → at ≤ q → q < at + count → is_used v.nodes q ≡ false)
-    → used (edited v (edit.Map id first count at)) ≡ used v + count
-used-map v id first count at may free =
-    let r : Run = record { first = first; count = count; place = at } in
-    let low : first_place v.layout ≤ at = there_holds (λ n. MayMap v.layout n r) (first_place v.layout ≤ at) _ (λ n m. m.placed.low) may in
-    let high : at + count ≤ v.layout.total = there_holds (λ n. MayMap v.layout n r) (at + count ≤ v.layout.total) _ (λ n m. m.placed.high) may in
-    ap (count_by (λ b. b)) (same_map_over _ (λ q. is_used v.nodes q || has_place q r) (data_places v.layout) (λ q. is_used-map v id first count at q may))
-    ∙ passing_either (is_used v.nodes) (λ q. has_place q r) (first_place v.layout) (data_blocks v.layout) (not_both v r free)
-    ∙ ap (λ (n : ℕ). used v + n) (passing_run r (first_place v.layout) (data_blocks v.layout) low (omega arith))

@@ -9,8 +9,9 @@ use Rattle.sis_disk.specs.declared.layout.TableKind.TheVariants as kinds
 use Rattle.sis_disk.specs.Layout.{IsLayout}
 use Rattle.sis_table.specs.Volume.{VolumeTable, IsTable, greatest_number, most_nodes}
 use Rattle.sis_table.specs.Spelling.{le4, le8, node_text, spelling}
-use Rattle.sis_table.specs.Reading.{head_at, nodes_at, table_at}
-use Rattle.sis_table.proofs.ReadingSteps.{none_above, IsBytes, Takes, Takes-then, bind_ok, ok_is, guard_ok, bind_again, guard_again, number_step, number_back}
+use Rattle.sis_table.specs.Reading.{head_at, nodes_at, table_at, here}
+use Rattle.sis_table.proofs.ReadingSteps.{none_above, IsBytes, Takes, Takes-then, number_step, number_back}
+use Rattle.sis_reading.proofs.StepLemmas.{bind_ok, ok_is, guard_ok, bind_again, guard_again}
 use Rattle.sis_table.proofs.ReadingNodes.{counted_from, counted_to, nodes_take, nodes_again}
 
 -- next id, greatest index and number of files
@@ -27,11 +28,11 @@ head_takes : (total : ℕ) (bytes : List ℕ) (y : ℕ × ℕ × ℕ × List ℕ
 unfolding head_at
 head_takes total bytes y fits e =
     let a = number_step 8 total bytes _ y fits e in
-    let ga = guard_ok total bytes kinds.Next _ _ y a.3 in
+    let ga = guard_ok (here total bytes kinds.Next) _ _ _ y a.3 in
     let b = number_step 8 total a.0.1 _ y a.1.rest_fits ga.1 in
-    let gb = guard_ok total a.0.1 kinds.Greatest _ _ y b.3 in
+    let gb = guard_ok (here total a.0.1 kinds.Greatest) _ _ _ y b.3 in
     let c = number_step 4 total b.0.1 _ y b.1.rest_fits gb.1 in
-    let gc = guard_ok total b.0.1 kinds.Count _ _ y c.3 in
+    let gc = guard_ok (here total b.0.1 kinds.Count) _ _ _ y c.3 in
     let bc = Takes-then a.0.1 (little_bytes 8 b.0.0) b.0.1 (little_bytes 4 c.0.0) c.0.1 b.1 c.1 in
     let abc = Takes-then bytes (little_bytes 8 a.0.0) a.0.1 (little_bytes 8 b.0.0 ++ little_bytes 4 c.0.0) c.0.1 a.1 bc in
     let next = counted_from a.0.0 greatest_number ga.0 in
@@ -50,11 +51,11 @@ head_again total next greatest count rest head =
     let behind_greatest = little_bytes 4 count ++ rest in
     let behind_next = little_bytes 8 greatest ++ behind_greatest in
     number_back 8 total next behind_next _ _ next_fits
-    (guard_again total (little_bytes 8 next ++ behind_next) kinds.Next _ _ _ (counted_to next greatest_number head.next_low head.next_high)
+    (guard_again (here total (little_bytes 8 next ++ behind_next) kinds.Next) _ _ _ _ (counted_to next greatest_number head.next_low head.next_high)
     (number_back 8 total greatest behind_greatest _ _ greatest_fits
-    (guard_again total behind_next kinds.Greatest _ _ _ (le-ltb greatest_number greatest head.limit)
+    (guard_again (here total behind_next kinds.Greatest) _ _ _ _ (le-ltb greatest_number greatest head.limit)
     (number_back 4 total count rest _ _ count_fits
-    (guard_again total behind_greatest kinds.Count _ _ _ (le-ltb most_nodes count head.few) refl)))))
+    (guard_again (here total behind_greatest kinds.Count) _ _ _ _ (le-ltb most_nodes count head.few) refl)))))
 
 -- what is read is spelled so, and is a table of the layout
 pub table_at-found : (l : Layout) (bytes : List ℕ) (v : VolumeTable) → IsLayout l → IsBytes bytes → table_at l bytes ≡ Ok v → (bytes ≡ spelling v) × IsTable v × (v.layout ≡ l)
@@ -65,7 +66,7 @@ table_at-found l bytes v layout fits e =
     let head = head_takes (length bytes) bytes bh.0 fits bh.1 in
     let bn = bind_ok (nodes_at (length bytes) l bh.0.0 [] bh.0.2 bh.0.3) _ v bh.2 in
     let nodes = nodes_take (length bytes) l bh.0.0 bh.0.2 [] bh.0.3 bn.0 head.0.rest_fits bn.1 in
-    let g = guard_ok (length bytes) bn.0.1 kinds.Trailing _ _ v bn.2 in
+    let g = guard_ok (here (length bytes) bn.0.1 kinds.Trailing) _ _ _ v bn.2 in
     let nothing : bn.0.1 ≡ [] = nil_from_length bn.0.1 (none_above (length bn.0.1) g.0) in
     let t : VolumeTable = record { layout = l; next_id = bh.0.0; greatest = bh.0.1; nodes = bn.0.0 } in
     let both = (Takes-then bytes (head_text bh.0.0 bh.0.1 bh.0.2) bh.0.3 (flat_map node_text bn.0.0) bn.0.1 head.0 nodes.0).parts in

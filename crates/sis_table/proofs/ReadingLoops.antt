@@ -8,7 +8,9 @@ use Rattle.sis_table.specs.declared.node.Node.{Node}
 use Rattle.sis_table.specs.declared.fault.TableFault.{TableFault}
 use Rattle.sis_table.specs.declared.fault.TableFault.TheVariants as faults
 use Rattle.sis_table.specs.Volume.{last_id}
-use Rattle.sis_table.specs.Reading.{◌>>=◌, Fails, Fault, units_of, run_at, runs_at, node_at, nodes_at}
+use Rattle.sis_table.specs.Reading.{Fault, units_of, run_at, runs_at, node_at, nodes_at, named}
+use Rattle.sis_reading.specs.Steps.{◌>>=◌}
+use Rattle.sis_reading.specs.Steps.{Fails}
 
 -- what was read before, and what is still read
 abbrev pub with_front : {A : Type 0} → List A → Result (List A × List ℕ) Fault → Result (List A × List ℕ) Fault
@@ -46,8 +48,8 @@ module _ (all : ℕ) (l : Layout) (blocks : ℕ) where
       let one : with_front front (runs_at all l blocks before (count - i) bytes) ≡ with_front (front ++ r ∷ []) (runs_at all l blocks (Some r) (count - (i + 1)) after) = rw (k, h) (regroup front r (runs_at all l blocks (Some r) (count - (i + 1)) after)) in
       sym one ∙ so_far
 
-  pub run_fails : (e : TableFault) (front : List Run) (count i : ℕ) (before : Option Run) (bytes : List ℕ) (total : Result (List Run × List ℕ) Fault) → i < count → Fails e (run_at all l blocks before bytes)
-      → with_front front (runs_at all l blocks before (count - i) bytes) ≡ total → Fails e total
+  pub run_fails : (e : TableFault) (front : List Run) (count i : ℕ) (before : Option Run) (bytes : List ℕ) (total : Result (List Run × List ℕ) Fault) → i < count → Fails (named e) (run_at all l blocks before bytes)
+      → with_front front (runs_at all l blocks before (count - i) bytes) ≡ total → Fails (named e) total
   unfolding runs_at
   run_fails faults.Memory front count i before bytes total lt h so_far = tt
   run_fails (faults.At at rule) front count i before bytes total lt h so_far =
@@ -76,8 +78,8 @@ module _ (all : ℕ) (l : Layout) (next : ℕ) where
       let one : with_front front (nodes_at all l next front (count - i) bytes) ≡ with_front (front ++ n ∷ []) (nodes_at all l next (front ++ n ∷ []) (count - (i + 1)) after) = rw (k, h) (regroup front n (nodes_at all l next (front ++ n ∷ []) (count - (i + 1)) after)) in
       sym one ∙ so_far
 
-  pub node_fails : (e : TableFault) (front : List Node) (count i : ℕ) (bytes : List ℕ) (total : Result (List Node × List ℕ) Fault) → i < count → Fails e (node_at all l next front bytes)
-      → with_front front (nodes_at all l next front (count - i) bytes) ≡ total → Fails e total
+  pub node_fails : (e : TableFault) (front : List Node) (count i : ℕ) (bytes : List ℕ) (total : Result (List Node × List ℕ) Fault) → i < count → Fails (named e) (node_at all l next front bytes)
+      → with_front front (nodes_at all l next front (count - i) bytes) ≡ total → Fails (named e) total
   unfolding nodes_at
   node_fails faults.Memory front count i bytes total lt h so_far = tt
   node_fails (faults.At at rule) front count i bytes total lt h so_far =

@@ -13,9 +13,10 @@ use Rattle.sis_name.specs.Units.{is_barred, is_store_name}
 use Rattle.sis_table.specs.declared.node.Node.{Node}
 use Rattle.sis_table.specs.Volume.{has_name}
 use Rattle.sis_table.specs.Spelling.{le2, name_text}
-use Rattle.sis_table.specs.Reading.{units_of, units_at, is_bad_name, named_at}
+use Rattle.sis_table.specs.Reading.{units_of, units_at, is_bad_name, named_at, here}
 use Rattle.sis_table.proofs.Lengths.{length_units}
-use Rattle.sis_table.proofs.ReadingSteps.{none_above, IsBytes, IsBytes-drop, Takes, Takes-then, bytes_again, bind_ok, ok_is, guard_ok, bind_again, guard_again, number_step, number_back}
+use Rattle.sis_table.proofs.ReadingSteps.{none_above, IsBytes, IsBytes-drop, Takes, Takes-then, bytes_again, number_step, number_back}
+use Rattle.sis_reading.proofs.StepLemmas.{bind_ok, ok_is, guard_ok, bind_again, guard_again}
 
 -- ---- units
 
@@ -53,7 +54,7 @@ units_takes : (total : ℕ) (bytes : List ℕ) (y : List ℕ × List ℕ) → Is
 unfolding units_at le2
 units_takes total bytes y fits e =
     let a = number_step 2 total bytes _ y fits e in
-    let g = guard_ok total bytes kinds.Short _ _ y a.3 in
+    let g = guard_ok (here total bytes kinds.Short) _ _ _ y a.3 in
     let long : 2 * a.0.0 ≤ length a.0.1 = ltb-false (length a.0.1) (2 * a.0.0) g.0 in
     let units = units_take a.0.0 a.0.1 a.1.rest_fits long in
     let both = Takes-then bytes (little_bytes 2 a.0.0) a.0.1 (flat_map le2 (units_of a.0.0 a.0.1)) (drop (2 * a.0.0) a.0.1) a.1 units in
@@ -70,7 +71,7 @@ name_again total units rest fits few =
     let again : units_of (length units) text ≡ units = units_again units rest fits in
     let past : drop (2 * length units) text ≡ rest = drop_at (flat_map le2 units) rest (2 * length units) len in
     number_back 2 total (length units) text _ _ few
-    (guard_again total (little_bytes 2 (length units) ++ text) kinds.Short _ _ _ long
+    (guard_again (here total (little_bytes 2 (length units) ++ text) kinds.Short) _ _ _ _ long
     (rw (again, past) refl))
 
 -- ---- what a name's units are
@@ -134,8 +135,8 @@ named_takes total front bytes y fits e =
     let a = bind_ok (units_at total bytes) _ y e in
     let t = units_takes total bytes a.0 fits a.1 in
     let k = number_step 1 total a.0.1 _ y t.rest_fits a.2 in
-    let gk = guard_ok total a.0.1 kinds.Kind _ _ y k.3 in
-    let gn = guard_ok total bytes kinds.Name _ _ y gk.1 in
+    let gk = guard_ok (here total a.0.1 kinds.Kind) _ _ _ y k.3 in
+    let gn = guard_ok (here total bytes kinds.Name) _ _ _ y gk.1 in
     let plain : Takes a.0.1 (0 ∷ []) k.0.1 = subst (λ (x : ℕ). Takes a.0.1 (little_bytes 1 x) k.0.1) (none_above k.0.0 gk.0) k.1 in
     subst (λ (x : List ℕ × List ℕ). (kind : List ℕ) × Takes bytes (name_text x.0) kind × Takes kind (0 ∷ []) x.1 × MayBeNamed front x.0)
     (ok_is (a.0.0, k.0.1) y gn.1) (a.0.1, t, plain, may_be front a.0.0 gn.0)
@@ -147,4 +148,4 @@ named_again total front name rest may =
     let few : length name < 65536 = omega (arith, units.1) in
     bind_again (units_at total (name_text name ++ 0 ∷ rest)) (name, 0 ∷ rest) _ _ (name_again total name (0 ∷ rest) units.0 few)
     (number_back 1 total 0 rest _ _ (omega arith)
-    (guard_again total (name_text name ++ 0 ∷ rest) kinds.Name _ _ _ (not_bad front name may) refl))
+    (guard_again (here total (name_text name ++ 0 ∷ rest) kinds.Name) _ _ _ _ (not_bad front name may) refl))

@@ -11,9 +11,12 @@ use Rattle.sis_table.specs.declared.runs.Run.{Run}
 use Rattle.sis_table.specs.declared.node.Node.{Node}
 use Rattle.sis_table.specs.Volume.{IsNode, AreNodes, last_id, has_name, blocks_of, greatest_number, greatest_size}
 use Rattle.sis_table.specs.Spelling.{le4, le8, run_text, name_text, runs_text, node_text}
-use Rattle.sis_table.specs.Reading.{Fault, ◌>>=◌, guard, number_at, named_at, runs_at, node_at, nodes_at}
+use Rattle.sis_table.specs.Reading.{Fault, number_at, named_at, runs_at, node_at, nodes_at, here}
+use Rattle.sis_reading.specs.Steps.{◌>>=◌}
+use Rattle.sis_reading.specs.Steps.{guard}
 use Rattle.sis_table.proofs.Lengths.{blocks_limit}
-use Rattle.sis_table.proofs.ReadingSteps.{IsBytes, Takes, Takes-then, bind_ok, ok_is, guard_ok, bind_again, guard_again, number_then, bind_then, number_back}
+use Rattle.sis_table.proofs.ReadingSteps.{IsBytes, Takes, Takes-then, number_then, number_back}
+use Rattle.sis_reading.proofs.StepLemmas.{bind_ok, ok_is, guard_ok, bind_again, guard_again, bind_then}
 use Rattle.sis_table.proofs.ReadingRuns.{AreNext, runs_take, runs_again, are_runs, are_placed, are_next, few_runs}
 use Rattle.sis_table.proofs.ReadingNames.{MayBeNamed, named_takes, named_again}
 
@@ -53,8 +56,8 @@ tail_text size version runs = little_bytes 8 size ++ (little_bytes 8 version ++ 
 -- what stands behind a file's name and kind
 abbrev tail_at : ℕ → Layout → ℕ → List ℕ → List ℕ → Result (Node × List ℕ) Fault
 tail_at total l id name bytes =
-    number_at 8 total bytes >>= λ size. guard total bytes kinds.Size (ltb greatest_size size.0) (tt {0}) >>= λ b.
-    number_at 8 total size.1 >>= λ version. guard total size.1 kinds.NodeVersion (eqb version.0 0 || ltb greatest_number version.0) (tt {0}) >>= λ c.
+    number_at 8 total bytes >>= λ size. guard (here total bytes kinds.Size) (ltb greatest_size size.0) (tt {0}) >>= λ b.
+    number_at 8 total size.1 >>= λ version. guard (here total size.1 kinds.NodeVersion) (eqb version.0 0 || ltb greatest_number version.0) (tt {0}) >>= λ c.
     number_at 4 total version.1 >>= λ count. runs_at total l (blocks_of size.0) None count.0 count.1 >>= λ runs.
     Ok (record { id = id; name = name; size = size.0; version = version.0; runs = runs.0 }, runs.1)
 
@@ -82,9 +85,9 @@ tail_takes : (total : ℕ) (l : Layout) (id : ℕ) (name bytes : List ℕ) (y : 
 unfolding le4
 tail_takes total l id name bytes y fits e =
     number_then 8 total bytes _ y _ fits e (λ size behind_size size_text size_fits e1.
-    let gs = guard_ok total bytes kinds.Size (ltb greatest_size size) _ y e1 in
+    let gs = guard_ok (here total bytes kinds.Size) (ltb greatest_size size) _ _ y e1 in
     number_then 8 total behind_size _ y _ size_text.rest_fits gs.1 (λ version behind_version version_text version_fits e2.
-    let gv = guard_ok total behind_size kinds.NodeVersion (eqb version 0 || ltb greatest_number version) _ y e2 in
+    let gv = guard_ok (here total behind_size kinds.NodeVersion) (eqb version 0 || ltb greatest_number version) _ _ y e2 in
     number_then 4 total behind_version _ y _ version_text.rest_fits gv.1 (λ count behind_count count_text count_fits e3.
     bind_then (runs_at total l (blocks_of size) None count behind_count) _ y _ e3 (λ runs er e4.
     tail_whole l id name bytes y size behind_size version behind_version count behind_count runs.0 runs.1 size_text version_text count_text
@@ -133,7 +136,7 @@ pub node_takes : (total : ℕ) (l : Layout) (next : ℕ) (front : List Node) (by
 unfolding node_at
 node_takes total l next front bytes y fits e =
     number_then 8 total bytes _ y _ fits e (λ id behind_id id_text id_fits e1.
-    let gi = guard_ok total bytes kinds.Id (leb id (last_id front) || leb next id) _ y e1 in
+    let gi = guard_ok (here total bytes kinds.Id) (leb id (last_id front) || leb next id) _ _ y e1 in
     bind_then (named_at total front behind_id) _ y _ gi.1 (λ name en e2.
     let t = named_takes total front behind_id name id_text.rest_fits en in
     node_whole l next front bytes y id behind_id name.0 t.0 name.1 id_text t.1 t.2 t.3 (rises_from (last_id front) next id gi.0)
@@ -166,12 +169,12 @@ node_again total l next front n rest layout high follows =
     let regrouped : node_text n ++ rest ≡ little_bytes 8 n.id ++ name = ap (λ (x : List ℕ). x ++ rest) (fields_of n) ∙ ap (λ (x : List ℕ). little_bytes 8 n.id ++ x) (append_assoc (name_text n.name) (0 ∷ (little_bytes 8 n.size ++ (little_bytes 8 n.version ++ runs_text n.runs))) rest) in
     ap (node_at total l next front) regrouped ∙
     number_back 8 total n.id name _ _ id_fits
-    (guard_again total (little_bytes 8 n.id ++ name) kinds.Id _ _ _ (rises_to (last_id front) next n.id follows.rises follows.below)
+    (guard_again (here total (little_bytes 8 n.id ++ name) kinds.Id) _ _ _ _ (rises_to (last_id front) next n.id follows.rises follows.below)
     (bind_again (named_at total front name) (n.name, size) _ _ (named_again total front n.name size may)
     (number_back 8 total n.size version _ _ size_fits
-    (guard_again total size kinds.Size _ _ _ size_right
+    (guard_again (here total size kinds.Size) _ _ _ _ size_right
     (number_back 8 total n.version count _ _ version_fits
-    (guard_again total version kinds.NodeVersion _ _ _ (counted_to n.version greatest_number node.version_low node.version_high)
+    (guard_again (here total version kinds.NodeVersion) _ _ _ _ (counted_to n.version greatest_number node.version_low node.version_high)
     (number_back 4 total (length n.runs) runs _ _ count_fits
     (bind_again (runs_at total l (blocks_of n.size) None (length n.runs) runs) (n.runs, rest) _ _
     (runs_again total l (blocks_of n.size) (omega (arith, blocks_fit)) (omega (arith, total_high)) n.runs None rest next_runs) refl))))))))

@@ -11,8 +11,9 @@ use Rattle.sis_table.specs.declared.runs.Run.{Run}
 use Rattle.sis_table.specs.Runs.{AreRuns, IsApart}
 use Rattle.sis_table.specs.Volume.{IsPlaced}
 use Rattle.sis_table.specs.Spelling.{le8, run_text}
-use Rattle.sis_table.specs.Reading.{joins, end_before, number_at, run_at, runs_at}
-use Rattle.sis_table.proofs.ReadingSteps.{IsBytes, Takes, Takes-then, bind_ok, ok_is, guard_ok, guard_again, number_step, bind_then, number_back}
+use Rattle.sis_table.specs.Reading.{joins, end_before, number_at, run_at, runs_at, here}
+use Rattle.sis_table.proofs.ReadingSteps.{IsBytes, Takes, Takes-then, number_step, number_back}
+use Rattle.sis_reading.proofs.StepLemmas.{bind_ok, ok_is, guard_ok, guard_again, bind_then}
 
 -- a run that may stand behind another
 pub record IsNext (l : Layout) (blocks : ℕ) (before : Option Run) (r : Run) : Type 0 where
@@ -46,11 +47,11 @@ pub run_takes : (total : ℕ) (l : Layout) (blocks : ℕ) (before : Option Run) 
 unfolding run_at run_text le8
 run_takes total l blocks before bytes y fits e =
     let a = number_step 8 total bytes _ y fits e in
-    let ga = guard_ok total bytes kinds.Run _ _ y a.3 in
+    let ga = guard_ok (here total bytes kinds.Run) _ _ _ y a.3 in
     let b = number_step 8 total a.0.1 _ y a.1.rest_fits ga.1 in
-    let gb = guard_ok total a.0.1 kinds.Run _ _ y b.3 in
+    let gb = guard_ok (here total a.0.1 kinds.Run) _ _ _ y b.3 in
     let c = number_step 8 total b.0.1 _ y b.1.rest_fits gb.1 in
-    let gc = guard_ok total b.0.1 kinds.Run _ _ y c.3 in
+    let gc = guard_ok (here total b.0.1 kinds.Run) _ _ _ y c.3 in
     let r : Run = record { first = a.0.0; count = b.0.0; place = c.0.0 } in
     let bc = Takes-then a.0.1 (little_bytes 8 b.0.0) b.0.1 (little_bytes 8 c.0.0) c.0.1 b.1 c.1 in
     let abc = Takes-then bytes (little_bytes 8 a.0.0) a.0.1 (little_bytes 8 b.0.0 ++ little_bytes 8 c.0.0) c.0.1 a.1 bc in
@@ -74,12 +75,12 @@ run_is_next : (total : ℕ) (l : Layout) (blocks : ℕ) (before : Option Run) (b
 unfolding run_at
 run_is_next total l blocks before bytes y e =
     bind_then (number_at 8 total bytes) _ y _ e (λ first ef e1.
-    let ga = guard_ok total bytes kinds.Run (ltb first.0 (end_before before) || leb blocks first.0) _ y e1 in
+    let ga = guard_ok (here total bytes kinds.Run) (ltb first.0 (end_before before) || leb blocks first.0) _ _ y e1 in
     bind_then (number_at 8 total first.1) _ y _ ga.1 (λ count ec e2.
-    let gb = guard_ok total first.1 kinds.Run (eqb count.0 0 || ltb (blocks - first.0) count.0) _ y e2 in
+    let gb = guard_ok (here total first.1 kinds.Run) (eqb count.0 0 || ltb (blocks - first.0) count.0) _ _ y e2 in
     bind_then (number_at 8 total count.1) _ y _ gb.1 (λ place ep e3.
     let r : Run = record { first = first.0; count = count.0; place = place.0 } in
-    let gc = guard_ok total count.1 kinds.Run _ _ y e3 in
+    let gc = guard_ok (here total count.1 kinds.Run) _ _ _ y e3 in
     subst (λ (x : Run × List ℕ). IsNext l blocks before x.0) (ok_is (r, place.1) y gc.1) (next_from l blocks before r ga.0 gb.0 gc.0))))
 
 runs_are_next : (total : ℕ) (l : Layout) (blocks n : ℕ) (before : Option Run) (bytes : List ℕ) (y : List Run × List ℕ) → runs_at total l blocks before n bytes ≡ Ok y → AreNext l blocks before y.0
@@ -116,11 +117,11 @@ module _ (total : ℕ) (l : Layout) (blocks : ℕ) (blocks_fit : blocks < 256 ^ 
       let behind_count = little_bytes 8 r.place ++ rest in
       let behind_first = little_bytes 8 r.count ++ behind_count in
       number_back 8 total r.first behind_first _ _ first_fits
-      (guard_again total (little_bytes 8 r.first ++ behind_first) kinds.Run _ _ _ first_right
+      (guard_again (here total (little_bytes 8 r.first ++ behind_first) kinds.Run) _ _ _ _ first_right
       (number_back 8 total r.count behind_count _ _ count_fits
-      (guard_again total behind_first kinds.Run _ _ _ count_right
+      (guard_again (here total behind_first kinds.Run) _ _ _ _ count_right
       (number_back 8 total r.place rest _ _ place_fits
-      (guard_again total behind_count kinds.Run _ _ _ place_right refl)))))
+      (guard_again (here total behind_count kinds.Run) _ _ _ _ place_right refl)))))
 
   pub runs_again : (rs : List Run) (before : Option Run) (rest : List ℕ) → AreNext l blocks before rs → runs_at total l blocks before (length rs) (flat_map run_text rs ++ rest) ≡ Ok (rs, rest)
   unfolding runs_at

@@ -1,13 +1,15 @@
 -- Steps of reading: what a step that didn't fail gave, and what a step on spelled bytes gives.
-use Rattle.std.proofs.Common.{◌≡◌, ℕ, ◌^◌, ◌<◌, ◌≤◌, Bool, true, false, ltb, List, ◌++◌, length, take, drop, Result, Ok, Err, refl, sym, ap, subst, ◌∙◌, append_assoc, arith}
+use Rattle.std.proofs.Common.{◌≡◌, ℕ, ◌^◌, ◌<◌, ◌≤◌, false, ltb, List, ◌++◌, length, take, drop, Result, Ok, refl, sym, ap, subst, ◌∙◌, append_assoc, arith}
 use Rattle.std.proofs.lemmas.Bool.{ltb-false, le-ltb}
 use Rattle.std.proofs.lemmas.List.{drop_at, take-append-drop, length-append}
 use Rattle.byteorder.specs.Endian.{little_number, little_bytes}
 use Rattle.byteorder.specs.Numbers.{little_from-lt, little_number-reads_back, length-bytes_low_first}
 pub use Rattle.sis_disk.proofs.Bytes.{IsBytes, IsBytes-drop, bytes_again}
-use Rattle.sis_disk.specs.declared.layout.TableKind.{TableKind}
 use Rattle.sis_disk.specs.declared.layout.TableKind.TheVariants as kinds
-use Rattle.sis_table.specs.Reading.{Fault, ◌>>=◌, guard, number_at}
+use Rattle.sis_table.specs.Reading.{Fault, number_at, here}
+use Rattle.sis_reading.specs.Steps.{◌>>=◌}
+use Rattle.sis_reading.specs.Steps.{guard}
+use Rattle.sis_reading.proofs.StepLemmas.{bind_ok, bind_again, guarded}
 
 -- what a reader took from the front
 pub record Takes (bytes text rest : List ℕ) : Type 0 where
@@ -20,32 +22,6 @@ Takes-then a x b y c p q = record {
   rest_fits = q.rest_fits;
 }
 
--- the value of a step that did not fail
-pub bind_ok : {A B : Type 0} (r : Result A Fault) (f : A → Result B Fault) (y : B) → (r >>= f) ≡ Ok y → (x : A) × (r ≡ Ok x) × (f x ≡ Ok y)
-bind_ok (Ok x) f y e = (x, refl, e)
-bind_ok (Err d) f y e = absurd cc
-
-abbrev done : {A : Type 0} → A → Result A Fault
-done x = Ok x
-
-pub ok_is : {A : Type 0} (x y : A) → done x ≡ done y → x ≡ y
-ok_is x y e = cc
-
--- a field that was read wasn't wrong
-pub guard_ok : {B : Type 0} (total : ℕ) (bytes : List ℕ) (rule : TableKind) (wrong : Bool) (f : Unit {0} → Result B Fault) (y : B) → (guard total bytes rule wrong (tt {0}) >>= f) ≡ Ok y → (wrong ≡ false) × (f (tt {0}) ≡ Ok y)
-guard_ok total bytes rule true f y e = absurd cc
-guard_ok total bytes rule false f y e = (refl, e)
-
-pub guarded : {A : Type 0} (total : ℕ) (bytes : List ℕ) (rule : TableKind) (wrong : Bool) (x y : A) → guard total bytes rule wrong x ≡ Ok y → (wrong ≡ false) × (x ≡ y)
-guarded total bytes rule true x y e = absurd cc
-guarded total bytes rule false x y e = (refl, cc)
-
-pub bind_again : {A B : Type 0} (r : Result A Fault) (x : A) (f : A → Result B Fault) (y : Result B Fault) → r ≡ Ok x → f x ≡ y → (r >>= f) ≡ y
-bind_again r x f y is e = rw is e
-
-pub guard_again : {B : Type 0} (total : ℕ) (bytes : List ℕ) (rule : TableKind) (wrong : Bool) (f : Unit {0} → Result B Fault) (y : Result B Fault) → wrong ≡ false → f (tt {0}) ≡ y → (guard total bytes rule wrong (tt {0}) >>= f) ≡ y
-guard_again total bytes rule wrong f y right e = rw right e
-
 -- ---- numbers
 
 -- a number that is not above 0
@@ -55,7 +31,7 @@ none_above n h = let le : n ≤ 0 = ltb-false 0 n h in omega arith
 pub number_takes : (n total : ℕ) (bytes : List ℕ) (x : ℕ × List ℕ) → IsBytes bytes → number_at n total bytes ≡ Ok x → Takes bytes (little_bytes n x.0) x.1 × (x.0 < 256 ^ n)
 unfolding number_at
 number_takes n total bytes x fits e =
-    let g = guarded total bytes kinds.Short (ltb (length bytes) n) (little_number n bytes, drop n bytes) x e in
+    let g = guarded (here total bytes kinds.Short) (ltb (length bytes) n) (little_number n bytes, drop n bytes) x e in
     let long : n ≤ length bytes = ltb-false _ _ g.0 in
     let front : little_bytes n (little_number n bytes) ≡ take n bytes = bytes_again n bytes fits long in
     let taken : Takes bytes (little_bytes n (little_number n bytes)) (drop n bytes) = record { parts = rw front (sym (take-append-drop n bytes)); rest_fits = IsBytes-drop n bytes fits } in
@@ -79,10 +55,6 @@ pub number_back : {B : Type 0} (n total x : ℕ) (rest : List ℕ) (f : ℕ × L
 number_back n total x rest f y lt e = bind_again (number_at n total (little_bytes n x ++ rest)) (x, rest) f y (number_again n total x rest lt) e
 
 -- the same, with what follows as a function of what was read
-pub bind_then : {A B : Type 0} (r : Result A Fault) (f : A → Result B Fault) (y : B) (P : Type 0) → (r >>= f) ≡ Ok y → ((x : A) → r ≡ Ok x → f x ≡ Ok y → P) → P
-bind_then (Ok x) f y P e next = next x refl e
-bind_then (Err d) f y P e next = absurd cc
-
 pub number_then : {B : Type 0} (n total : ℕ) (bytes : List ℕ) (f : ℕ × List ℕ → Result B Fault) (y : B) (P : Type 0) → IsBytes bytes → (number_at n total bytes >>= f) ≡ Ok y
     → ((x : ℕ) (rest : List ℕ) → Takes bytes (little_bytes n x) rest → x < 256 ^ n → f (x, rest) ≡ Ok y → P) → P
 number_then n total bytes f y P fits e next =

@@ -2,9 +2,9 @@
 use Rattle.std.specs.Prelude.{◌≡◌, ℕ, ◌+◌, ◌*◌, List, take, map, flat_map, replicate, slice_range, Option, None, Some}
 use Rattle.std.specs.List.{range_with_len}
 use Rattle.std.specs.Option.{option_map}
-use Rattle.std.specs.FinMap.{FinMap, from_entries}
+use Rattle.std.specs.FinMap.{from_entries}
 use Rattle.sis_disk.specs.Record.{Seen, live_of}
-use Rattle.sis_name.specs.Units.{name_cmp}
+use Rattle.sis_name.specs.Files.{Files}
 use Rattle.sis_table.specs.declared.runs.Run.{Run}
 use Rattle.sis_table.specs.declared.node.Node.{Node}
 use Rattle.sis_table.specs.Runs.{place_of}
@@ -28,10 +28,6 @@ abbrev pub content_of : Node → List ℕ → List ℕ
 content_of n live =
     take n.size (flat_map (λ block. mapped_block live (place_of n.runs block))
     (range_with_len 0 (blocks_of n.size)))
-
--- the bytes of files under their names
-abbrev pub Files : Type 0
-Files = FinMap name_cmp (List ℕ)
 
 -- the files under their names
 abbrev pub files_of : VolumeTable → List ℕ → Files

@@ -1,6 +1,7 @@
 -- For which files an image opens.
 use Rattle.std.specs.Prelude.{◌≡◌, ℕ, List, Ok}
-use Rattle.sis_table.specs.Content.{Files, StandsFor}
+use Rattle.sis_table.specs.Content.{StandsFor}
+use Rattle.sis_name.specs.Files.{Files}
 use Rattle.sis_table.specs.Good.{IsGood}
 use Rattle.sis_table.specs.Image.{image_at}
 use Rattle.sis_table.specs.Volume.{VolumeTable}

@@ -1,6 +1,6 @@
 -- Reading a table from left to right, with the first fault that is met. `total` is how many bytes
 -- there are in all, so that a fault's place is counted from the first one.
-use Rattle.std.specs.Prelude.{◌≡◌, ℕ, zero, suc, ◌+◌, ◌-◌, ◌*◌, ◌≤◌, Bool, false, ◌||◌, List, [], ◌∷◌, ◌++◌, length, drop, Option, Some, None, is_some, Result, Ok, Err, nat_lt, nat_le, ◌==◌, if◌then◌else◌}
+use Rattle.std.specs.Prelude.{ℕ, zero, suc, ◌+◌, ◌-◌, ◌*◌, ◌≤◌, Bool, false, ◌||◌, List, [], ◌∷◌, ◌++◌, length, drop, Option, Some, None, is_some, Result, Ok, nat_lt, nat_le, ◌==◌, ⊤}
 use Rattle.std.specs.List.{list_any}
 use Rattle.byteorder.specs.Endian.{little_number}
 use Rattle.sis_disk.specs.Layout.{first_place}
@@ -9,6 +9,7 @@ use Rattle.sis_disk.specs.declared.layout.TableKind.{TableKind}
 use Rattle.sis_disk.specs.declared.layout.TableKind.TheVariants as kinds
 use Rattle.sis_name.specs.Name.{name_fault}
 use Rattle.sis_name.specs.Units.{is_store_name}
+use Rattle.sis_reading.specs.Steps.{◌>>=◌, guard}
 use Rattle.sis_table.specs.Runs.{can_join, block_end}
 use Rattle.sis_table.specs.Volume.{VolumeTable, last_id, has_name, blocks_of, greatest_number, greatest_size, most_nodes}
 use Rattle.sis_table.specs.declared.runs.Run.{Run}
@@ -20,33 +21,25 @@ use Rattle.sis_table.specs.declared.fault.TableFault.TheVariants as faults
 abbrev pub Fault : Type 0
 Fault = ℕ × TableKind
 
-infixl 10 ◌>>=◌
-abbrev pub ◌>>=◌ : {A B : Type 0} → Result A Fault → (A → Result B Fault) → Result B Fault
-(Ok x) >>= f = f x
-(Err e) >>= f = Err e
-
--- What a function returned, seen by view, is what reading gives, unless memory ran out.
-abbrev pub Fails : {Y : Type 0} → TableFault → Result Y Fault → Type 0
-Fails faults.Memory read = Unit {0}
-Fails (faults.At at kind) read = read ≡ Err (at, kind)
-
-abbrev pub Gives : {X Y : Type 0} → (X → Y) → Result X TableFault → Result Y Fault → Type 0
-Gives view (Ok x) read = read ≡ Ok (view x)
-Gives view (Err e) read = Fails e read
+-- the fault of the reading that an error names; none where memory ran out
+abbrev pub named : TableFault → Option Fault
+named faults.Memory = None
+named (faults.At at kind) = Some (at, kind)
 
 -- a fault isn't behind so many bytes
 abbrev pub IsWithin : ℕ → TableFault → Type 0
-IsWithin n faults.Memory = Unit {0}
+IsWithin n faults.Memory = ⊤
 IsWithin n (faults.At at _) = at ≤ n
 
--- goes on where the field that begins here isn't wrong
-abbrev pub guard : {A : Type 0} → ℕ → List ℕ → TableKind → Bool → A → Result A Fault
-guard total bytes kind wrong x = if wrong then Err (total - length bytes, kind) else Ok x
+-- a fault of the field that begins with these bytes, which end what is read
+abbrev pub here : ℕ → List ℕ → TableKind → Fault
+here total bytes kind = (total - length bytes, kind)
 
 -- a number of so many bytes, and the bytes behind it
 unfoldable pub number_at : ℕ → ℕ → List ℕ → Result (ℕ × List ℕ) Fault
 number_at n total bytes =
-    guard total bytes kinds.Short (nat_lt (length bytes) n) (little_number n bytes, drop n bytes)
+    guard (here total bytes kinds.Short) (nat_lt (length bytes) n)
+    (little_number n bytes, drop n bytes)
 
 -- so many units
 abbrev pub units_of : ℕ → List ℕ → List ℕ
@@ -57,7 +50,7 @@ units_of (suc n) bytes = little_number 2 bytes ∷ units_of n (drop 2 bytes)
 unfoldable pub units_at : ℕ → List ℕ → Result (List ℕ × List ℕ) Fault
 units_at total bytes = do
   count ← number_at 2 total bytes
-  a ← guard total bytes kinds.Short (nat_lt (length count.1) (2 * count.0)) (tt {0})
+  a ← guard (here total bytes kinds.Short) (nat_lt (length count.1) (2 * count.0)) (tt {0})
   Ok (units_of count.0 count.1, drop (2 * count.0) count.1)
 
 -- no name, one of the common store's, or one that an earlier file has
@@ -70,8 +63,8 @@ unfoldable pub named_at : ℕ → List Node → List ℕ → Result (List ℕ ×
 named_at total front bytes = do
   name ← units_at total bytes
   kind ← number_at 1 total name.1
-  a ← guard total name.1 kinds.Kind (nat_lt 0 kind.0) (tt {0})
-  b ← guard total bytes kinds.Name (is_bad_name front name.0) (tt {0})
+  a ← guard (here total name.1 kinds.Kind) (nat_lt 0 kind.0) (tt {0})
+  b ← guard (here total bytes kinds.Name) (is_bad_name front name.0) (tt {0})
   Ok (name.0, kind.1)
 
 -- the run before this one could be joined with it
@@ -87,12 +80,13 @@ end_before (Some before) = block_end before
 unfoldable pub run_at : ℕ → Layout → ℕ → Option Run → List ℕ → Result (Run × List ℕ) Fault
 run_at total layout blocks before bytes = do
   first ← number_at 8 total bytes
-  a ← guard total bytes kinds.Run
+  a ← guard (here total bytes kinds.Run)
       (nat_lt first.0 (end_before before) || nat_le blocks first.0) (tt {0})
   count ← number_at 8 total first.1
-  b ← guard total first.1 kinds.Run ((count.0 == 0) || nat_lt (blocks - first.0) count.0) (tt {0})
+  b ← guard (here total first.1 kinds.Run)
+      ((count.0 == 0) || nat_lt (blocks - first.0) count.0) (tt {0})
   place ← number_at 8 total count.1
-  c ← guard total count.1 kinds.Run
+  c ← guard (here total count.1 kinds.Run)
       (joins before (record { first = first.0; count = count.0; place = place.0 })
       || nat_lt place.0 (first_place layout) || nat_lt layout.total (place.0 + count.0)) (tt {0})
   Ok (record { first = first.0; count = count.0; place = place.0 }, place.1)
@@ -108,12 +102,12 @@ runs_at total layout blocks before (suc n) bytes = do
 unfoldable pub node_at : ℕ → Layout → ℕ → List Node → List ℕ → Result (Node × List ℕ) Fault
 node_at total layout next front bytes = do
   id ← number_at 8 total bytes
-  a ← guard total bytes kinds.Id (nat_le id.0 (last_id front) || nat_le next id.0) (tt {0})
+  a ← guard (here total bytes kinds.Id) (nat_le id.0 (last_id front) || nat_le next id.0) (tt {0})
   name ← named_at total front id.1
   size ← number_at 8 total name.1
-  b ← guard total name.1 kinds.Size (nat_lt greatest_size size.0) (tt {0})
+  b ← guard (here total name.1 kinds.Size) (nat_lt greatest_size size.0) (tt {0})
   version ← number_at 8 total size.1
-  c ← guard total size.1 kinds.NodeVersion
+  c ← guard (here total size.1 kinds.NodeVersion)
       ((version.0 == 0) || nat_lt greatest_number version.0) (tt {0})
   count ← number_at 4 total version.1
   runs ← runs_at total layout (blocks_of size.0) None count.0 count.1
@@ -134,11 +128,11 @@ nodes_at total layout next front (suc n) bytes = do
 unfoldable pub head_at : ℕ → List ℕ → Result (ℕ × ℕ × ℕ × List ℕ) Fault
 head_at total bytes = do
   next ← number_at 8 total bytes
-  a ← guard total bytes kinds.Next ((next.0 == 0) || nat_lt greatest_number next.0) (tt {0})
+  a ← guard (here total bytes kinds.Next) ((next.0 == 0) || nat_lt greatest_number next.0) (tt {0})
   greatest ← number_at 8 total next.1
-  b ← guard total next.1 kinds.Greatest (nat_lt greatest_number greatest.0) (tt {0})
+  b ← guard (here total next.1 kinds.Greatest) (nat_lt greatest_number greatest.0) (tt {0})
   count ← number_at 4 total greatest.1
-  c ← guard total greatest.1 kinds.Count (nat_lt most_nodes count.0) (tt {0})
+  c ← guard (here total greatest.1 kinds.Count) (nat_lt most_nodes count.0) (tt {0})
   Ok (next.0, greatest.0, count.0, count.1)
 
 -- a table, and nothing behind it
@@ -146,5 +140,5 @@ unfoldable pub table_at : Layout → List ℕ → Result VolumeTable Fault
 table_at layout bytes = do
   head ← head_at (length bytes) bytes
   nodes ← nodes_at (length bytes) layout head.0 [] head.2 head.3
-  a ← guard (length bytes) nodes.1 kinds.Trailing (nat_lt 0 (length nodes.1)) (tt {0})
+  a ← guard (here (length bytes) nodes.1 kinds.Trailing) (nat_lt 0 (length nodes.1)) (tt {0})
   Ok (record { layout = layout; next_id = head.0; greatest = head.1; nodes = nodes.0 })

@@ -1,11 +1,11 @@
 -- What a `Table` shows, and which values are tables.
-use Rattle.std.specs.Prelude.{◌≡◌, ℕ, ◌+◌, ◌/◌, ◌^◌, ◌<◌, ◌≤◌, ◌==◌, nat_eq, Bool, false, List, [], ◌∷◌, ◌++◌, length, map, filter, find, count_by, Option, None, Some}
+use Rattle.std.specs.Prelude.{◌≡◌, ℕ, ◌+◌, ◌/◌, ◌^◌, ◌<◌, ◌≤◌, ◌==◌, Bool, false, List, [], ◌∷◌, ◌++◌, length, map, filter, find, count_by, Option, None, Some}
 use Rattle.std.specs.List.{list_any, AllByRecursion, range_with_len}
-use Rattle.std.specs.Cmp.Lexicographic.{pointwise}
 use Rattle.std.specs.FinMap.{FinMap, from_entries, keys}
 use Rattle.sis_disk.specs.declared.layout.Layout.{Layout}
 use Rattle.sis_disk.specs.Layout.{IsLayout, first_place, data_blocks}
 use Rattle.sis_name.specs.Name.{IsName}
+use Rattle.sis_name.specs.Files.{same_name}
 use Rattle.sis_name.specs.Units.{name_cmp, is_after, is_store_name}
 use Rattle.sis_table.specs.declared.runs.Run.{Run}
 use Rattle.sis_table.specs.declared.node.Node.{Node}
@@ -31,9 +31,6 @@ most_nodes = 65536
 -- how many blocks so many bytes take
 abbrev pub blocks_of : ℕ → ℕ
 blocks_of size = (size + 4095) / 4096
-
-abbrev pub same_name : List ℕ → List ℕ → Bool
-same_name a b = pointwise nat_eq a b
 
 abbrev pub has_name : List ℕ → Node → Bool
 has_name name n = same_name n.name name

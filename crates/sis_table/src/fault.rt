@@ -2,11 +2,13 @@
 //! made.
 use sis_disk::{GoodKind, TableKind};
 use std::alloc::{AllocError, AllocFailed};
+use thiserror::Error;
 
 /// Why some bytes were not read as a table.
-#[derive(Clone, Copy, Debug, PartialEq, Eq)]
+#[derive(Clone, Copy, Debug, PartialEq, Eq, Error)]
 pub enum TableFault {
     /// They are no table.
+    #[error("byte {at} of the table: {kind}")]
     At {
         /// The offset of the first field whose rule fails.
         at: u64,
@@ -14,6 +16,7 @@ pub enum TableFault {
         kind: TableKind,
     },
     /// There was no memory.
+    #[error("out of memory")]
     Memory,
 }
 
@@ -40,9 +43,10 @@ impl<T: Drop> From<AllocFailed<T>> for TableFault {
 }
 
 /// Why the files of a table weren't found to go together.
-#[derive(Clone, Copy, Debug, PartialEq, Eq)]
+#[derive(Clone, Copy, Debug, PartialEq, Eq, Error)]
 pub enum GoodFault {
     /// They don't.
+    #[error("file {file}, link {index}: {kind}")]
     Bad {
         /// The rule.
         kind: GoodKind,
@@ -52,6 +56,7 @@ pub enum GoodFault {
         index: u64,
     },
     /// There was no memory.
+    #[error("out of memory")]
     Memory,
 }
 
@@ -67,14 +72,16 @@ impl From<AllocError> for GoodFault {
 }
 
 /// Why edits were not made.
-#[derive(Clone, Copy, Debug, PartialEq, Eq)]
+#[derive(Clone, Copy, Debug, PartialEq, Eq, Error)]
 pub enum EditsFault {
     /// The spelling of the table after them is too long.
+    #[error("the table would have {needed} bytes")]
     TooLong {
         /// Its length in bytes.
         needed: u64,
     },
     /// There was no memory.
+    #[error("out of memory")]
     Memory,
 }
 

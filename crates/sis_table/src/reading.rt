@@ -5,12 +5,14 @@ ghost use Rattle.std.specs.Option.{ForSome};
 ghost use Rattle.sis_disk.specs.Layout.{IsLayout, first_place};
 ghost use Rattle.sis_table.specs.Volume.{VolumeTable, IsTable, has_name, last_id, blocks_of, greatest_size};
 ghost use Rattle.sis_table.specs.Spelling.{spelling};
-ghost use Rattle.sis_table.specs.Reading.{Gives, guard, number_at, units_of, units_at, is_bad_name, named_at};
+ghost use Rattle.sis_table.specs.Reading.{number_at, units_of, units_at, is_bad_name, named_at, named, here};
+ghost use Rattle.sis_reading.specs.Steps.{Gives, guard};
 ghost use Rattle.sis_table.specs.Reading.{joins, end_before, run_at, runs_at, node_at, nodes_at, head_at, table_at};
 
 use crate::files::Files;
 use crate::{Layout, Node, Run, Runs, TableFault, TableKind};
 use byteorder::{ByteOrder, LittleEndian};
+use sis_disk::BLOCK_LEN;
 use sis_name::{Name, NameFault};
 use std::alloc::Global;
 
@@ -20,8 +22,6 @@ const GREATEST_NUMBER: u64 = 9_223_372_036_854_775_807;
 const GREATEST_SIZE: u64 = 68_719_476_736;
 /// The greatest number of files.
 const MOST_NODES: u32 = 65_536;
-/// The bytes of a block.
-const BLOCK_LEN: u64 = 4096;
 
 /// The fault of the field that begins where these bytes do, the last ones of so many.
 fn fault(total: usize, bytes: &[u8], kind: TableKind) -> TableFault
@@ -38,7 +38,7 @@ fn fault(total: usize, bytes: &[u8], kind: TableKind) -> TableFault
 #[tactic(auto, unfolding(crate::specs::Reading::number_at))]
 fn u8_at(total: usize, bytes: &[u8]) -> Result<(u8, &[u8]), TableFault>
     requires { length bytes.now ≤ total }
-    ensures value { Gives (λ x. (x.0, x.1.now)) result (number_at 1 total bytes.now) }
+    ensures value { Gives named (λ x. (x.0, x.1.now)) result (number_at 1 total bytes.now) }
     ensures shorter { IfOk result (λ x. length x.1.now ≤ total) }
 {
     if bytes.is_empty() {
@@ -51,7 +51,7 @@ fn u8_at(total: usize, bytes: &[u8]) -> Result<(u8, &[u8]), TableFault>
 #[tactic(auto, unfolding(crate::specs::Reading::number_at))]
 fn u16_at(total: usize, bytes: &[u8]) -> Result<(u16, &[u8]), TableFault>
     requires { length bytes.now ≤ total }
-    ensures value { Gives (λ x. (x.0, x.1.now)) result (number_at 2 total bytes.now) }
+    ensures value { Gives named (λ x. (x.0, x.1.now)) result (number_at 2 total bytes.now) }
     ensures shorter { IfOk result (λ x. length x.1.now ≤ total) }
 {
     if bytes.len() < 2 {
@@ -64,7 +64,7 @@ fn u16_at(total: usize, bytes: &[u8]) -> Result<(u16, &[u8]), TableFault>
 #[tactic(auto, unfolding(crate::specs::Reading::number_at))]
 fn u32_at(total: usize, bytes: &[u8]) -> Result<(u32, &[u8]), TableFault>
     requires { length bytes.now ≤ total }
-    ensures value { Gives (λ x. (x.0, x.1.now)) result (number_at 4 total bytes.now) }
+    ensures value { Gives named (λ x. (x.0, x.1.now)) result (number_at 4 total bytes.now) }
     ensures shorter { IfOk result (λ x. length x.1.now ≤ total) }
 {
     if bytes.len() < 4 {
@@ -77,7 +77,7 @@ fn u32_at(total: usize, bytes: &[u8]) -> Result<(u32, &[u8]), TableFault>
 #[tactic(auto, unfolding(crate::specs::Reading::number_at))]
 fn u64_at(total: usize, bytes: &[u8]) -> Result<(u64, &[u8]), TableFault>
     requires { length bytes.now ≤ total }
-    ensures value { Gives (λ x. (x.0, x.1.now)) result (number_at 8 total bytes.now) }
+    ensures value { Gives named (λ x. (x.0, x.1.now)) result (number_at 8 total bytes.now) }
     ensures shorter { IfOk result (λ x. length x.1.now ≤ total) }
 {
     if bytes.len() < 8 {
@@ -90,7 +90,7 @@ fn u64_at(total: usize, bytes: &[u8]) -> Result<(u64, &[u8]), TableFault>
 #[tactic(auto, using(crate::proofs::ReadingLoops::units_read))]
 fn units_in(alloc: Global, count: usize, bytes: &[u8]) -> Result<Vec<u16>, TableFault>
     requires { 2 * count ≤ length bytes.now }
-    ensures { Gives (λ units. units.items) result (Ok (units_of count bytes.now)) }
+    ensures { Gives named (λ units. units.items) result (Ok (units_of count bytes.now)) }
 {
     let mut units = Vec::new(alloc);
     let mut rest = bytes;
@@ -106,7 +106,7 @@ fn units_in(alloc: Global, count: usize, bytes: &[u8]) -> Result<Vec<u16>, Table
 #[tactic(auto, unfolding(crate::specs::Reading::units_at))]
 fn name_units_at(alloc: Global, total: usize, bytes: &[u8]) -> Result<(Vec<u16>, &[u8]), TableFault>
     requires { length bytes.now ≤ total }
-    ensures value { Gives (λ x. (x.0.items, x.1.now)) result (units_at total bytes.now) }
+    ensures value { Gives named (λ x. (x.0.items, x.1.now)) result (units_at total bytes.now) }
     ensures shorter { IfOk result (λ x. length x.1.now ≤ total) }
 {
     let (count, rest) = u16_at(total, bytes)?;
@@ -128,8 +128,8 @@ fn judged_name(
     units: &[u16],
 ) -> Result<Name, TableFault>
     requires { length bytes.now ≤ total }
-    ensures value { Gives (λ name. name) result
-        (guard total bytes.now TableKind.Name (is_bad_name front.now units.now) units.now) }
+    ensures value { Gives named (λ name. name) result
+        (guard (here total bytes.now TableKind.Name) (is_bad_name front.now units.now) units.now) }
     ensures free { IfOk result (λ name. list_any (has_name name) front.now ≡ false) }
 {
     match Name::from_units(alloc, units) {
@@ -153,7 +153,7 @@ fn named_of<'a>(
     bytes: &'a [u8],
 ) -> Result<(Name, &'a [u8]), TableFault>
     requires { length bytes.now ≤ total }
-    ensures value { Gives (λ x. (x.0, x.1.now)) result (named_at total front.now bytes.now) }
+    ensures value { Gives named (λ x. (x.0, x.1.now)) result (named_at total front.now bytes.now) }
     ensures shorter { IfOk result (λ x. length x.1.now ≤ total) }
     ensures free { IfOk result (λ x. list_any (has_name x.0) front.now ≡ false) }
 {
@@ -217,7 +217,7 @@ fn run_of<'a>(
     requires blocks { blocks < 2 ^ 32 }
     requires first { ForSome before (λ r. r.first + r.count < 2 ^ 32) }
     requires place { ForSome before (λ r. r.place + r.count < 2 ^ 32) }
-    ensures value { Gives (λ x. (x.0, x.1.now)) result
+    ensures value { Gives named (λ x. (x.0, x.1.now)) result
         (run_at total layout.now blocks before bytes.now) }
     ensures shorter { IfOk result (λ x. length x.1.now ≤ total) }
     ensures first { IfOk result (λ x. x.0.first + x.0.count ≤ blocks) }
@@ -255,7 +255,7 @@ fn run_list<'a>(
     requires whole { length bytes.now ≤ total }
     requires layout { IsLayout layout.now }
     requires blocks { blocks < 2 ^ 32 }
-    ensures value { Gives (λ x. (x.0.items, x.1.now)) result
+    ensures value { Gives named (λ x. (x.0.items, x.1.now)) result
         (runs_at total layout.now blocks None count bytes.now) }
     ensures shorter { IfOk result (λ x. length x.1.now ≤ total) }
 {
@@ -284,7 +284,7 @@ fn runs_of<'a>(
     requires whole { length bytes.now ≤ total }
     requires layout { IsLayout layout.now }
     requires blocks { blocks < 2 ^ 32 }
-    ensures value { Gives (λ x. (x.0, x.1.now)) result
+    ensures value { Gives named (λ x. (x.0, x.1.now)) result
         (runs_at total layout.now blocks None count bytes.now) }
     ensures shorter { IfOk result (λ x. length x.1.now ≤ total) }
 {
@@ -313,7 +313,7 @@ fn node_of<'a>(
 ) -> Result<(Node, &'a [u8]), TableFault>
     requires whole { length bytes.now ≤ total }
     requires layout { IsLayout layout.now }
-    ensures value { Gives (λ x. (x.0, x.1.now)) result
+    ensures value { Gives named (λ x. (x.0, x.1.now)) result
         (node_at total layout.now next_id front.now bytes.now) }
     ensures shorter { IfOk result (λ x. length x.1.now ≤ total) }
     ensures rises { IfOk result (λ x. last_id front.now < x.0.id) }
@@ -355,7 +355,7 @@ fn nodes_of<'a>(
 ) -> Result<(Files, &'a [u8]), TableFault>
     requires whole { length bytes.now ≤ total }
     requires layout { IsLayout layout.now }
-    ensures value { Gives (λ x. (x.0, x.1.now)) result
+    ensures value { Gives named (λ x. (x.0, x.1.now)) result
         (nodes_at total layout.now next_id [] count bytes.now) }
     ensures shorter { IfOk result (λ x. length x.1.now ≤ total) }
 {
@@ -373,7 +373,7 @@ fn nodes_of<'a>(
 #[tactic(auto, unfolding(crate::specs::Reading::head_at))]
 fn head_of(total: usize, bytes: &[u8]) -> Result<(u64, u64, u32, &[u8]), TableFault>
     requires { length bytes.now ≤ total }
-    ensures value { Gives (λ x. (x.0, x.1, x.2, x.3.now)) result (head_at total bytes.now) }
+    ensures value { Gives named (λ x. (x.0, x.1, x.2, x.3.now)) result (head_at total bytes.now) }
     ensures shorter { IfOk result (λ x. length x.3.now ≤ total) }
 {
     let (next_id, after_next) = u64_at(total, bytes)?;
@@ -399,7 +399,7 @@ pub fn read_table(
     layout: &Layout,
 ) -> Result<(u64, u64, Files), TableFault>
     requires { IsLayout layout.now }
-    ensures { Gives (λ x. record {
+    ensures { Gives named (λ x. record {
       layout = layout.now;
       next_id = x.0;
       greatest = x.1;
@@ -420,6 +420,3 @@ pub fn one_spelling()
     ensures { (a b : VolumeTable) → IsTable a → IsTable b
         → a.layout ≡ b.layout → spelling a ≡ spelling b → a ≡ b }
 {}
-
-#[cfg(test)]
-mod tests;

@@ -5,7 +5,8 @@ ghost use Rattle.sis_disk.specs.Layout.{IsLayout};
 ghost use Rattle.sis_table.specs.Volume.{VolumeTable, IsTable, IsNextFile, empty_table, node_named, node_with, id_of};
 ghost use Rattle.sis_table.specs.Spelling.{spelling};
 ghost use Rattle.sis_table.specs.Good.{first_defect, IsGood, Names};
-ghost use Rattle.sis_table.specs.Reading.{Gives, IsWithin, table_at};
+ghost use Rattle.sis_table.specs.Reading.{IsWithin, table_at, named};
+ghost use Rattle.sis_reading.specs.Steps.{Gives};
 ghost use Rattle.sis_table.specs.Edits.{edited, edited_by, map_edit, IfThere, MayEdit};
 ghost use Rattle.sis_table.specs.Edits.{MayEditBy, MayMake, MayMap, MaySize, RefusesEdits};
 ghost use Rattle.sis_table.specs.Runs.{last_count};
@@ -390,12 +391,12 @@ impl Table {
     pub fn decode(alloc: Global, bytes: &[u8], layout: Layout) -> Result<Table, TableFault>
         requires { IsLayout layout }
         // The value, or the first fault from the left.
-        ensures value { Gives (λ table. table) result (table_at layout bytes.now) }
+        ensures value { Gives named (λ table. table) result (table_at layout bytes.now) }
         // What is read is spelled so.
         ensures found { IfOk result (λ table. bytes.now ≡ spelling table) }
         // What is spelled so is read, unless memory runs out.
         ensures only { (v : VolumeTable) → IsTable v → v.layout ≡ layout
-            → bytes.now ≡ spelling v → Gives (λ table. table) result (Ok v) }
+            → bytes.now ≡ spelling v → Gives named (λ table. table) result (Ok v) }
         ensures layout { IfOk result (λ table. table.layout ≡ layout) }
         // No fault is behind the bytes.
         ensures bound { IfErr result (IsWithin (length bytes.now)) }

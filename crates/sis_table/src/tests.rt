@@ -1,9 +1,9 @@
-//! Two spellings that were written by hand, and each call once.
+//! The bytes of a table with one file, written by hand, and each call once.
 ghost use Rattle.std.specs.Prelude.{◌≡◌, ◌∷◌, [], IfOk};
-ghost use Rattle.sis_table.specs.Edits.{edited_by};
-ghost use Rattle.sis_table.specs.Volume.{empty_table};
 
-use crate::{Edit, EditsFault, Layout, Run, Runs, Table};
+use crate::{
+    Edit, EditsFault, GoodFault, GoodKind, Layout, Run, Runs, Table, TableFault, TableKind,
+};
 use sis_name::Name;
 use std::alloc::{AllocError, Global};
 use std::test::Fail;
@@ -14,12 +14,6 @@ const LAYOUT: Layout = Layout {
     log: 0,
     letter: b'C',
 };
-
-const EMPTY: [u8; 20] = [
-    1, 0, 0, 0, 0, 0, 0, 0, // next id
-    0, 0, 0, 0, 0, 0, 0, 0, // greatest index
-    0, 0, 0, 0, // files
-];
 
 const ONE_FILE: [u8; 77] = [
     2, 0, 0, 0, 0, 0, 0, 0, // next id
@@ -36,66 +30,53 @@ const ONE_FILE: [u8; 77] = [
     6, 0, 0, 0, 0, 0, 0, 0, // place
 ];
 
-fn one_file(alloc: Global, name: Name) -> Result<Table, AllocError>
-    requires { name ≡ 97 ∷ [] }
-    ensures { IfOk result (λ table. table ≡ edited_by (empty_table LAYOUT)
-        (Edit.Make 1 (97 ∷ []) ∷ Edit.Size 1 3 ∷ Edit.Map 1 0 1 6 ∷ [])) }
-{
-    let mut table = Table::empty(alloc, LAYOUT);
-    table.apply(&Edit::Make { id: 1, name })?;
-    table.apply(&Edit::Size { id: 1, size: 3 })?;
-    table.apply(&Edit::Map {
-        id: 1,
-        first: 0,
-        count: 1,
-        place: 6,
-    })?;
-    Ok(table)
-}
-
-fn encoded(alloc: Global, table: &Table) -> Result<Vec<u8>, AllocError> {
-    let mut out = Vec::new(alloc);
-    table.encode(&mut out)?;
-    Ok(out)
-}
+/// How many of the bytes there are, one of them that is changed, and the first fault.
+const FAULTS: [(usize, (usize, u8), u64, TableKind); 3] = [
+    (31, (0, 2), 28, TableKind::Short),
+    (77, (30, b'"'), 28, TableKind::Name),
+    (77, (69, 5), 69, TableKind::Run),
+];
 
 #[test]
-fn tables_have_these_bytes(rt: HostRuntime) -> Result<(), Fail> {
+fn a_table_is_read_from_its_bytes(rt: HostRuntime) -> Result<(), Fail> {
     let alloc = rt.alloc();
-    let empty = Table::empty(alloc, LAYOUT);
-    assert_eq!(rt; encoded(alloc, &empty)?.as_slice(), EMPTY.as_slice());
+    let table = Table::decode(alloc, &ONE_FILE, LAYOUT)?.copy(alloc)?;
     let name = Name::from_units(alloc, &[0x61])?;
-    let table = one_file(alloc, name)?;
-    assert_eq!(rt; encoded(alloc, &table)?.as_slice(), ONE_FILE.as_slice());
-    assert_eq!(rt; table.encoded_len(), 77);
-    Ok(())
-}
-
-#[test]
-fn a_table_shows_its_file(rt: HostRuntime) -> Result<(), Fail> {
-    let alloc = rt.alloc();
-    let name = Name::from_units(alloc, &[0x61])?;
-    let table = one_file(alloc, Name::from_units(alloc, &[0x61])?)?.copy(alloc)?;
     assert_eq!(rt; table.layout(), LAYOUT);
-    assert_eq!(rt; (table.next_id(), table.greatest()), (2, 0));
+    assert_eq!(rt;
+        (table.next_id(), table.greatest(), table.files()),
+        (2, 0, 1)
+    );
     assert_eq!(rt; table.find(&name), Some(1));
-    assert_eq!(rt; table.files(), 1);
-    assert_eq!(rt; table.next_file(None), Some(1));
-    assert_eq!(rt; table.next_file(Some(&name)), None);
+    assert_eq!(rt;
+        (table.next_file(None), table.next_file(Some(&name))),
+        (Some(1), None)
+    );
     let node = table.node(1).ok_or("no file")?.copy(alloc)?;
     assert_eq!(rt; (node.size, node.version), (3, 1));
     table.good(alloc)?;
+    let mut out = Vec::new(alloc);
+    table.encode(&mut out)?;
+    assert_eq!(rt; out.as_slice(), ONE_FILE.as_slice());
+    assert_eq!(rt; (table.encoded_len(), table.nodes().len()), (77, 1));
+    for (len, (at, byte), place, kind) in FAULTS {
+        let mut bytes = ONE_FILE;
+        if at < 77 && len <= 77 {
+            bytes[at] = byte;
+            let fault = Table::decode(alloc, &bytes[..len], LAYOUT).err();
+            assert_eq!(rt; fault, Some(TableFault::At { at: place, kind }), "{kind}");
+        }
+    }
     Ok(())
 }
 
-fn edits(alloc: Global, first: Name, second: Name) -> Result<Vec<Edit>, AllocError>
-    requires first { first ≡ 98 ∷ [] }
-    requires second { second ≡ 97 ∷ [] }
-    ensures { IfOk result (λ edits. edits.items ≡ Edit.Make 1 (98 ∷ []) ∷ Edit.Size 1 3
-        ∷ Edit.Map 1 0 1 6 ∷ Edit.Make 2 (97 ∷ []) ∷ []) }
+fn edits(alloc: Global, name: Name) -> Result<Vec<Edit>, AllocError>
+    requires { name ≡ 97 ∷ [] }
+    ensures { IfOk result (λ edits. edits.items ≡ Edit.Make 1 (97 ∷ []) ∷ Edit.Size 1 3
+        ∷ Edit.Map 1 0 1 6 ∷ []) }
 {
-    let mut edits = Vec::with_capacity(alloc, 4)?;
-    edits.push(Edit::Make { id: 1, name: first })?;
+    let mut edits = Vec::with_capacity(alloc, 3)?;
+    edits.push(Edit::Make { id: 1, name })?;
     edits.push(Edit::Size { id: 1, size: 3 })?;
     edits.push(Edit::Map {
         id: 1,
@@ -103,34 +84,25 @@ fn edits(alloc: Global, first: Name, second: Name) -> Result<Vec<Edit>, AllocErr
         count: 1,
         place: 6,
     })?;
-    edits.push(Edit::Make {
-        id: 2,
-        name: second,
-    })?;
     Ok(edits)
 }
 
 #[test]
 fn all_edits_are_made_or_none(rt: HostRuntime) -> Result<(), Fail> {
     let alloc = rt.alloc();
-    let (later, sooner) = (
-        Name::from_units(alloc, &[0x62])?,
-        Name::from_units(alloc, &[0x61])?,
-    );
-    let edits = edits(alloc, later.copy(alloc)?, sooner.copy(alloc)?)?;
-    let mut refused = Table::empty(alloc, LAYOUT);
-    let fault = refused.apply_all(&edits, 109).err();
-    assert_eq!(rt; fault, Some(EditsFault::TooLong { needed: 110 }));
-    assert_eq!(rt; encoded(alloc, &refused)?.as_slice(), EMPTY.as_slice());
+    let edits = edits(alloc, Name::from_units(alloc, &[0x61])?)?;
     let mut table = Table::empty(alloc, LAYOUT);
-    table.apply_all(&edits, 110)?;
-    assert_eq!(rt; (table.files(), table.encoded_len()), (2, 110));
-    assert_eq!(rt;
-        (table.find(&later), table.find(&sooner)),
-        (Some(1), Some(2))
-    );
-    assert_eq!(rt; table.next_file(None), Some(2));
-    assert_eq!(rt; table.next_file(Some(&sooner)), Some(1));
+    let fault = table.apply_all(&edits, 76).err();
+    assert_eq!(rt; fault, Some(EditsFault::TooLong { needed: 77 }));
+    assert_eq!(rt; table.encoded_len(), 20);
+    let mut table = Table::empty(alloc, LAYOUT);
+    table.apply_all(&edits, 77)?;
+    let mut out = Vec::new(alloc);
+    table.encode(&mut out)?;
+    assert_eq!(rt; out.as_slice(), ONE_FILE.as_slice());
+    let mut other = Table::empty(alloc, LAYOUT);
+    other.apply(&edits[0])?;
+    assert_eq!(rt; (other.files(), other.encoded_len()), (1, 53));
     Ok(())
 }
 
@@ -153,5 +125,38 @@ fn runs_that_go_on_are_joined(rt: HostRuntime) -> Result<(), Fail> {
     runs.push(run(2, 1, 9))?;
     let want = [run(0, 2, 6), run(2, 1, 9)];
     assert_eq!(rt; runs.copy(alloc)?.as_slice(), want.as_slice());
+    Ok(())
+}
+
+#[test]
+fn faults_have_their_messages(rt: HostRuntime) -> Result<(), Fail> {
+    let alloc = rt.alloc();
+    let table = TableFault::At {
+        at: 28,
+        kind: TableKind::Name,
+    };
+    let good = GoodFault::Bad {
+        kind: GoodKind::PlaceTwice,
+        file: 2,
+        index: 0,
+    };
+    let edits = EditsFault::TooLong { needed: 77 };
+    let memory = (TableFault::Memory, GoodFault::Memory, EditsFault::Memory);
+    assert_eq!(rt;
+        format!(in alloc; "{table}")?.as_str(),
+        "byte 28 of the table: table-name"
+    );
+    assert_eq!(rt;
+        format!(in alloc; "{good}")?.as_str(),
+        "file 2, link 0: placetwice"
+    );
+    assert_eq!(rt;
+        format!(in alloc; "{edits}")?.as_str(),
+        "the table would have 77 bytes"
+    );
+    assert_eq!(rt;
+        format!(in alloc; "{}, {}, {}", memory.0, memory.1, memory.2)?.as_str(),
+        "out of memory, out of memory, out of memory"
+    );
     Ok(())
 }

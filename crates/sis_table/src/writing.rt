@@ -6,6 +6,9 @@ ghost use Rattle.sis_table.specs.Spelling.{le2, le4, le8, name_text, run_text, r
 use crate::{Node, Run};
 use byteorder::{ByteOrder, LittleEndian};
 
+/// The most units of a name.
+const MOST_UNITS: usize = 255;
+
 pub fn put(out: &mut Vec<u8>, bytes: &[u8])
     requires { length out.old.items + length bytes.now ≤ vec_capacity out.old }
     ensures items { out.new.items ≡ out.old.items ++ bytes.now }
@@ -76,6 +79,7 @@ pub fn put_runs(out: &mut Vec<u8>, runs: &[Run])
     }
 }
 
+#[tactic(auto, unfolding(crate::specs::Spelling::le2))]
 pub fn put_name(out: &mut Vec<u8>, units: &[u16])
     requires size { length units.now ≤ 255 }
     requires room { length out.old.items + (2 + 2 * length units.now) ≤ vec_capacity out.old }
@@ -84,9 +88,10 @@ pub fn put_name(out: &mut Vec<u8>, units: &[u16])
     ensures room { vec_capacity out.old ≤ vec_capacity out.new }
 {
     put_u16(out, units.len() as u16);
-    for unit in units {
-        put_u16(out, *unit);
-    }
+    let mut bytes = [0; 2 * MOST_UNITS];
+    let bytes = &mut bytes[..2 * units.len()];
+    LittleEndian::write_u16_into(units, bytes);
+    put(out, bytes);
 }
 
 #[tactic(auto, unfolding(crate::specs::Spelling::node_text))]
