@@ -15,7 +15,7 @@ use Rattle.sis_disk.proofs.Laid.{laid_at, laid_elsewhere, length-laid, not_insid
 use Rattle.sis_disk.proofs.LaidRanges.{drop-laid_above, slice-laid_in, slice-laid_out, take-laid_below}
 use Rattle.sis_journal.specs.Committing.{Both, KeepsRest}
 use Rattle.sis_journal.specs.Inside.{IsReady, WritesStable}
-use Rattle.sis_journal.specs.Texts.{HoldsText, KeepsText, KeepsData, OldOrNew, settled}
+use Rattle.sis_journal.specs.Texts.{HoldsText, KeepsText, KeepsData, OldOrNew, made_stable}
 use Rattle.sis_journal.proofs.Readings.{live_sized}
 use Rattle.sis_journal.proofs.StableWrites.{leaves_stable, live_stable, now_of, now_stable, written_stable}
 
@@ -127,8 +127,8 @@ module _ (l : Layout) (is : IsLayout l) where
     pub area_shows : (s : State) → KeepsText l second old s → Shows (λ m. HoldsText l old m × KeepsData l s m) (loosened (area_start l (not second)) n s)
     area_shows s keeps m image = (old_held s m keeps image, data_kept s m image)
 
-  settled_keeps : (second : Bool) (text : List ℕ) (s : State) → KeepsText l second text s → KeepsText l second text (settled s)
-  settled_keeps second text s keeps = record { holds = keeps.holds; selector = keeps.selector; firm = λ i lo hi. refl }
+  stable_keeps_text : (second : Bool) (text : List ℕ) (s : State) → KeepsText l second text s → KeepsText l second text (made_stable s)
+  stable_keeps_text second text s keeps = record { holds = keeps.holds; selector = keeps.selector; firm = λ i lo hi. refl }
 
   -- the other area has the new text, and may be selected
   ready : (second : Bool) (old new : List ℕ) (s : State) → KeepsText l second old s → length new ≤ table_cap l
@@ -138,18 +138,18 @@ module _ (l : Layout) (is : IsLayout l) where
       let n = length (area_bytes new) in
       let small = area_fits new fits in
       let within = area_inside (not second) n (length s.live) small keeps.holds.size in
-      let image : IsImage (loosened at n (settled s)) (laid s.live at (area_bytes new)) = laid_image (settled s) at (area_bytes new) within in
-      let still = settled_keeps second old s keeps in
+      let image : IsImage (loosened at n (made_stable s)) (laid s.live at (area_bytes new)) = laid_image (made_stable s) at (area_bytes new) within in
+      let still = stable_keeps_text second old s keeps in
       record {
         keeps = record {
-          holds = old_held second old n small (settled s) (laid s.live at (area_bytes new)) still image;
-          selector = old_selector second old n small (settled s) (laid s.live at (area_bytes new)) still image;
+          holds = old_held second old n small (made_stable s) (laid s.live at (area_bytes new)) still image;
+          selector = old_selector second old n small (made_stable s) (laid s.live at (area_bytes new)) still image;
           firm = λ i lo hi. refl;
         };
         fits = fits;
         area = slice-laid_in s.live at (area_bytes new) within;
         stable = refl;
-        blocks = data_kept second old n small (settled s) (laid s.live at (area_bytes new)) image;
+        blocks = data_kept second old n small (made_stable s) (laid s.live at (area_bytes new)) image;
       }
 
   pub area_leaves : {T E : Type 0} (second : Bool) (bytes : List ℕ) (result : Result T E) (was now : Seen) → length bytes ≤ 4096 * l.area
@@ -180,13 +180,13 @@ module _ (l : Layout) (is : IsLayout l) where
     beside : (p q : ℕ) → (4097 ≤ p) ⊎ (p + q ≤ 4096) → IsFirm (loosened 4096 1 s).loose p q
     beside p q apart = firm_loosened s 4096 1 p q (λ i lo hi. none_loose i) apart
 
-    blocks_kept : (m : List ℕ) → IsImage (loosened 4096 1 s) m → KeepsData l (settled before) m
+    blocks_kept : (m : List ℕ) → IsImage (loosened 4096 1 s) m → KeepsData l (made_stable before) m
     blocks_kept m image = record {
       size = image.size ∙ ready.blocks.size;
       same = λ i low lt firm. image.same i lt (rw (not_inside 4096 1 i (inr (omega arith)), none_loose i) refl) ∙ ready.blocks.same i low (omega (arith, image.size)) refl;
     }
 
-    blocks_weaker : (m : List ℕ) → KeepsData l (settled before) m → KeepsData l before m
+    blocks_weaker : (m : List ℕ) → KeepsData l (made_stable before) m → KeepsData l before m
     blocks_weaker m keeps = record { size = keeps.size; same = λ i low lt firm. keeps.same i low lt refl }
 
     old_still : (m : List ℕ) → IsImage (loosened 4096 1 s) m → (slice_index m 4096 == 1) ≡ second → HoldsText l old m

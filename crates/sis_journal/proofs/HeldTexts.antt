@@ -8,11 +8,12 @@ use Rattle.byteorder.specs.Endian.{little_bytes, little_number}
 use Rattle.byteorder.specs.Numbers.{little_number-reads_back, length-bytes_low_first}
 use Rattle.sis_disk.specs.declared.layout.ImageKind.TheVariants as kind
 use Rattle.sis_disk.specs.declared.layout.Layout.{Layout}
-use Rattle.sis_disk.specs.Areas.{TextFault, area_bytes, area_start, read_by, selected_at, shifted, stated_len, text_bytes}
+use Rattle.sis_disk.specs.Areas.{TextFault, area_bytes, area_start, read_by, selected_at, shifted, stated_len, text_at, text_bytes}
 use Rattle.sis_disk.specs.Layout.{IsLayout, table_cap}
 use Rattle.sis_disk.specs.Record.{DiskRecord, Seen, is_loose, live_of, live_bytes}
 use Rattle.sis_disk.specs.Stops.{Now}
-use Rattle.sis_disk.specs.Superblock.{ImageFault, ◌>>=◌, guard, superblock, superblock_at}
+use Rattle.sis_disk.specs.Superblock.{ImageFault, superblock, superblock_at}
+use Rattle.sis_reading.specs.Steps.{◌>>=◌, guard}
 use Rattle.sis_disk.proofs.Areas.{length-area_bytes}
 use Rattle.sis_disk.proofs.Bytes.{IsBytes, IsBytes-drop, bytes_again}
 use Rattle.sis_journal.specs.Texts.{HoldsText, KeepsText}
@@ -21,58 +22,34 @@ use Rattle.sis_journal.proofs.SuperblockLaws.{superblock_at-only}
 
 -- ---- what was read is held
 
--- the text of an area is no longer than the area says
-pub area_text_len : (area text : List ℕ) (len : ℕ) → 8 + len ≤ length area → text ≡ slice_range area 8 (8 + len) → length text ≡ len
-area_text_len area text len long e = omega (arith, ap length e, length-take-le (8 + len - 8) (drop 8 area) (omega (arith, length-drop 8 area)))
-
--- an area that states the length of its text, and has it there
-pub area_found : (area text : List ℕ) (len : ℕ) → IsBytes area → len ≡ little_number 8 area → 8 + len ≤ length area
-    → text ≡ slice_range area 8 (8 + len) → take (length (area_bytes text)) area ≡ area_bytes text
-unfolding area_bytes
-area_found area text len fits stated long e =
-    let spelled : len ≡ length text = sym (area_text_len area text len long e) in
-    let size : length (area_bytes text) ≡ 8 + (8 + len - 8) = omega (arith, spelled, length-append (little_bytes 8 (length text)) text) in
-    ap (λ (n : ℕ). take n area) size ∙ take-add 8 (8 + len - 8) area
-    ∙ ap (λ (x : List ℕ). x ++ slice_range area 8 (8 + len)) (sym (bytes_again 8 area fits (omega arith)) ∙ ap (little_bytes 8) (sym stated ∙ spelled))
-    ∙ ap (λ (x : List ℕ). little_bytes 8 (length text) ++ x) (sym e)
-
-IsBytes-take : (n : ℕ) (bytes : List ℕ) → IsBytes bytes → IsBytes (take n bytes)
-IsBytes-take zero bytes h i = omega arith
-IsBytes-take (suc n) [] h i = h i
-IsBytes-take (suc n) (b ∷ bytes) h zero = h 0
-IsBytes-take (suc n) (b ∷ bytes) h (suc i) = IsBytes-take n bytes (λ j. h (suc j)) i
-
--- a range of bytes
-pub IsBytes-slice : (bytes : List ℕ) (from to : ℕ) → IsBytes bytes → IsBytes (slice_range bytes from to)
-IsBytes-slice bytes from to h = IsBytes-take (to - from) (drop from bytes) (IsBytes-drop from bytes h)
-
 -- the text of an area that was read is what the image holds
-pub text_held : (l : Layout) (second : Bool) (at : ℕ) (bytes text m : List ℕ) → IsLayout l → at ≡ area_start l second → length text ≤ table_cap l
-    → take (length (area_bytes text)) bytes ≡ area_bytes text → length m ≡ 4096 * l.total → take 4096 m ≡ superblock l → (slice_index m 4096 == 1) ≡ second
-    → bytes ≡ slice_range m at (at + 4096 * l.area) → HoldsText l text m
-text_held l second at bytes text m is place fits found size first sel there =
-    let k : ℕ = length (area_bytes text) in
-    let start : selected_at l m ≡ at = selected_is l m second sel ∙ sym place in
-    let small : k ≤ at + 4096 * l.area - at = omega (arith, length-area_bytes text, fits, is.area_low) in
-    let same : at + k - at ≡ k = omega arith in
-    record {
-      size = size;
-      superblock = first;
-      fits = fits;
-      area = ap (λ (s : ℕ). slice_range m s (s + k)) start ∙ ap (λ (i : ℕ). take i (drop at m)) same
-          ∙ sym (take-take k (at + 4096 * l.area - at) (drop at m) small) ∙ ap (take k) (sym there) ∙ found;
-    }
+text_held : (l : Layout) (second : Bool) (at : ℕ) (text m : List ℕ) → at ≡ area_start l second
+    → length text ≤ table_cap l → length m ≡ 4096 * l.total → take 4096 m ≡ superblock l
+    → (slice_index m 4096 == 1) ≡ second
+    → slice_range m at (at + length (area_bytes text)) ≡ area_bytes text → HoldsText l text m
+text_held l second at text m place fits size first sel there = record {
+  size = size;
+  superblock = first;
+  fits = fits;
+  area = ap (λ (s : ℕ). slice_range m s (s + length (area_bytes text)))
+      (selected_is l m second sel ∙ sym place) ∙ there;
+}
 
 -- the same, where the disk tells its bytes, and selector and area were read behind the first block
-pub image_held : (old mid : Option (List ℕ)) (l : Layout) (second : Bool) (at : ℕ) (bytes text seen : List ℕ) → mid ≡ old → IsLayout l → at ≡ area_start l second
-    → length text ≤ table_cap l → take (length (area_bytes text)) seen ≡ area_bytes text → seen ≡ bytes → IfSome old (λ m. length m ≡ 4096 * l.total)
-    → IfSome old (λ m. take 4096 m ≡ superblock l) → IfSome mid (λ m. (slice_index m 4096 == 1) ≡ second) → IfSome mid (λ m. bytes ≡ slice_range m at (at + 4096 * l.area))
+pub image_held : (old mid : Option (List ℕ)) (l : Layout) (second : Bool) (at : ℕ)
+    (bytes text : List ℕ) → mid ≡ old → at ≡ area_start l second → length text ≤ table_cap l
+    → text ≡ bytes → IfSome old (λ m. length m ≡ 4096 * l.total)
+    → IfSome old (λ m. take 4096 m ≡ superblock l)
+    → IfSome mid (λ m. (slice_index m 4096 == 1) ≡ second)
+    → IfSome mid (λ m. slice_range m at (at + length (area_bytes bytes)) ≡ area_bytes bytes)
     → IfSome old (HoldsText l text)
-image_held None mid l second at bytes text seen same is place fits found as_seen size first sel there = tt
-image_held (Some m) mid l second at bytes text seen same is place fits found as_seen size first sel there =
-    text_held l second at bytes text m is place fits (ap (take (length (area_bytes text))) (sym as_seen) ∙ found) size first
+image_held None mid l second at bytes text same place fits is size first sel there = tt
+image_held (Some m) mid l second at bytes text same place fits is size first sel there =
+    text_held l second at text m place fits size first
     (moved mid (Some m) (λ m. (slice_index m 4096 == 1) ≡ second) same sel)
-    (moved mid (Some m) (λ m. bytes ≡ slice_range m at (at + 4096 * l.area)) same there)
+    (subst (λ (t : List ℕ). slice_range m at (at + length (area_bytes t)) ≡ area_bytes t) (sym is)
+    (moved mid (Some m)
+    (λ m. slice_range m at (at + length (area_bytes bytes)) ≡ area_bytes bytes) same there))
 
 none_loose : (loose : List (ℕ × ℕ)) (i : ℕ) → loose ≡ [] → is_loose loose i ≡ false
 none_loose loose i e = ap (λ (l : List (ℕ × ℕ)). is_loose l i) e
@@ -130,7 +107,9 @@ read_by-held read l text m value is log h found =
     let at = selected_at l m in
     let block : superblock_at (length m) (take 4096 m) ≡ Ok l = ap₂ (λ (n : ℕ) (block : List ℕ). superblock_at n block) h.size h.superblock ∙ superblock_at-only l is log in
     let short : nat_lt (table_cap l) (stated_len l m) ≡ false = ap (nat_lt (table_cap l)) (stated_is l text m is h) ∙ le-ltb (table_cap l) (length text) h.fits in
-    ap (λ (r : Result Layout ImageFault). r >>= λ layout. guard (selected_at layout m) kind.TableLength (nat_lt (table_cap layout) (stated_len layout m)) >>= λ (x : Unit {0}). shifted (selected_at layout m + 8) (read layout (text_bytes layout m))) block
-    ∙ ap (λ (wrong : Bool). guard at kind.TableLength wrong >>= λ (x : Unit {0}). shifted (at + 8) (read l (text_bytes l m))) short
+    ap (λ (r : Result Layout ImageFault). r >>= λ layout. text_at layout m
+    >>= λ t. shifted (selected_at layout m + 8) (read layout t)) block
+    ∙ ap (λ (wrong : Bool). guard (at, kind.TableLength) wrong (text_bytes l m)
+    >>= λ t. shifted (at + 8) (read l t)) short
     ∙ ap (λ (bytes : List ℕ). shifted (at + 8) (read l bytes)) (text_bytes-held l text m is h)
     ∙ ap (shifted (at + 8)) found

@@ -1,6 +1,8 @@
+pub mod Behind
 pub mod CallerLemmas
 pub mod Commits
 pub mod HeldTexts
+pub mod NewImages
 pub mod ReadCalls
 pub mod Readings
 pub mod StableWrites

@@ -5,17 +5,12 @@ use Rattle.std.specs.List.{AllByRecursion}
 use Rattle.std.specs.Option.{option_map}
 use Rattle.sis_disk.specs.Record.{Call, Reads, Writes, Syncs, State, state_of, after, after_all, DiskRecord, Seen, Went, with_call, live_bytes, live_of}
 use Rattle.sis_disk.specs.Stops.{with_calls, Shows, ShowsAlong, GoesOn, Leaves, Now}
+use Rattle.sis_disk.proofs.GoesOn.{by_trans, calls_more, no_calls}
 use Rattle.sis_disk.proofs.Images.{after_all_append, now_call}
 use Rattle.sis_disk.proofs.Push.{live_with}
 use Rattle.sis_journal.specs.Inside.{OnlyReads}
-use Rattle.sis_journal.specs.Opening.{IsRead, AreSyncThenReads, GoesOnBy, SyncThenReads}
-
--- the record with further calls, and others behind them
-calls_more : (r : DiskRecord) (xs ys : List Call) → Some (with_calls ys (with_calls xs r)) ≡ Some (with_calls (xs ++ ys) r)
-calls_more r xs ys = ap (λ (cs : List Call). Some (record { opening = r.opening; calls = cs })) (append_assoc r.calls xs ys)
-
-no_calls : (r : DiskRecord) → Some r ≡ Some (with_calls [] r)
-no_calls r = ap (λ (cs : List Call). Some (record { opening = r.opening; calls = cs })) (sym (append-nil r.calls))
+use Rattle.sis_journal.specs.Opening.{IsRead, AreSyncThenReads, AreSyncedReads, IsSynced, SyncThenReads}
+use Rattle.sis_disk.specs.Stops.{GoesOnBy}
 
 -- a call that leaves the live bytes
 pub call_live : (c : Call) (old new : Option DiskRecord) → ((s : State) → (after s c).live ≡ s.live) → new ≡ option_map (with_call c) old → option_map live_bytes new ≡ option_map live_bytes old
@@ -50,19 +45,12 @@ all_append : (xs ys : List Call) → AllByRecursion IsRead xs → AllByRecursion
 all_append [] ys a b = b
 all_append (x ∷ xs) ys a b = (a.0, all_append xs ys a.1 b)
 
-on_and_on : (old mid new : Option DiskRecord) → GoesOnBy (AllByRecursion IsRead) old mid → GoesOnBy (AllByRecursion IsRead) mid new → GoesOnBy (AllByRecursion IsRead) old new
-on_and_on None None new a b = b
-on_and_on None (Some r) new a b = absurd cc
-on_and_on (Some r) mid new a b =
-    let h : GoesOnBy (AllByRecursion IsRead) (Some (with_calls a.0 r)) new = subst (λ (m : Option DiskRecord). GoesOnBy (AllByRecursion IsRead) m new) a.1 b in
-    (a.0 ++ h.0, h.1 ∙ calls_more r a.0 h.0, all_append a.0 h.0 a.2 h.2)
-
 -- reads, and reads behind them
 pub reads_then : (m n k : ℕ) (old mid new : Seen) → m + n ≤ k → OnlyReads m old mid → OnlyReads n mid new → OnlyReads k old new
 reads_then m n k old mid new le a b = record {
   elapses = record { size = b.elapses.size ∙ a.elapses.size; calls = omega arith; faults = omega arith };
   calls = omega arith;
-  told = on_and_on old.told mid.told new.told a.told b.told;
+  told = by_trans _ _ (AllByRecursion IsRead) old.told mid.told new.told all_append a.told b.told;
   live = b.live ∙ a.live;
 }
 
@@ -84,6 +72,21 @@ then_reads None mid new e b = subst (λ (m : Option DiskRecord). GoesOnBy (AllBy
 then_reads (Some r) mid new e b =
     let h : GoesOnBy (AllByRecursion IsRead) (Some (with_call (Syncs true) r)) new = subst (λ (m : Option DiskRecord). GoesOnBy (AllByRecursion IsRead) m new) e b in
     (Syncs true ∷ h.0, h.1 ∙ calls_more r (Syncs true ∷ []) h.0, h.2)
+
+-- a sync that succeeded, and reads behind it
+pub synced_reads : {T E : Type 0} (most : ℕ) (x : T) (old mid new : Seen)
+    → Went {E = E} Syncs (Ok x) old mid → OnlyReads most mid new → IsSynced old new
+synced_reads most x old mid new went reads =
+    record { told = by old.told mid.told went.ok.told reads.told }
+  where
+    by : (was after : Option DiskRecord) → after ≡ option_map (with_call (Syncs true)) was
+        → GoesOnBy (AllByRecursion IsRead) after new.told → GoesOnBy AreSyncedReads was new.told
+    by None after e b =
+        subst (λ (m : Option DiskRecord). GoesOnBy (AllByRecursion IsRead) m new.told) e b
+    by (Some r) after e b =
+        let h : GoesOnBy (AllByRecursion IsRead) (Some (with_call (Syncs true) r)) new.told =
+        subst (λ (m : Option DiskRecord). GoesOnBy (AllByRecursion IsRead) m new.told) e b in
+        (Syncs true ∷ h.0, h.1 ∙ calls_more r (Syncs true ∷ []) h.0, h.2)
 
 -- a sync changes no byte
 pub sync_live : {T E : Type 0} (result : Result T E) (old new : Seen) → Went Syncs result old new → live_of new ≡ live_of old
@@ -111,7 +114,7 @@ sync_and_reads most x old mid new went reads = record {
 
 -- ---- what stands while reads go by
 
-state_reading : (s : State) (cs : List Call) → AllByRecursion IsRead cs → after_all s cs ≡ s
+pub state_reading : (s : State) (cs : List Call) → AllByRecursion IsRead cs → after_all s cs ≡ s
 state_reading s [] a = refl
 state_reading s (Reads at len ok ∷ cs) a = state_reading s cs a.1
 state_reading s (Writes at bytes ok ∷ cs) a = absurd a.0

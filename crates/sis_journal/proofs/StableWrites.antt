@@ -60,9 +60,15 @@ live_failed : (call : Bool → Call) (old new : Seen) → ((s : State) → (afte
 live_failed call old new same (inl made) = call_live (call false) old.told new.told same made.told
 live_failed call old new same (inr none) = ap (option_map live_bytes) none.told
 
+-- where both succeeded, the bytes were laid
+pub live_written : (at : ℕ) (bytes : List ℕ) (old mid new : Seen) → Made (Writes at bytes true) old mid → Made (Syncs true) mid new
+    → live_of new ≡ option_map (λ live. laid live at bytes) (live_of old)
+live_written at bytes old mid new made synced =
+    call_live (Syncs true) mid.told new.told (λ s. refl) synced.told ∙ live_laid at bytes old.told mid.told made.told
+
 -- the bytes were laid or not
 pub live_stable : {T E : Type 0} (at : ℕ) (bytes : List ℕ) (result : Result T E) (old new : Seen) → WritesStable at bytes result old new
     → (live_of new ≡ live_of old) ⊎ (live_of new ≡ option_map (λ live. laid live at bytes) (live_of old))
-live_stable at bytes (Ok x) old new w = inr (call_live (Syncs true) w.0.told new.told (λ s. refl) w.2.told ∙ live_laid at bytes old.told w.0.told w.1.told)
+live_stable at bytes (Ok x) old new w = inr (live_written at bytes old w.0 new w.1 w.2)
 live_stable at bytes (Err e) old new (inl failed) = inl (live_failed (Writes at bytes) old new (λ s. refl) failed)
 live_stable at bytes (Err e) old new (inr w) = inr (live_failed Syncs w.0 new (λ s. refl) w.2 ∙ live_laid at bytes old.told w.0.told w.1.told)

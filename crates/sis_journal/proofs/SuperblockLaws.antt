@@ -13,7 +13,8 @@ use Rattle.std.proofs.lemmas.List.Folds.{prefix_len-replicate}
 use Rattle.sis_disk.specs.declared.layout.Layout.{Layout}
 use Rattle.sis_disk.specs.declared.layout.ImageKind.TheVariants as kind
 use Rattle.sis_disk.specs.Layout.{IsLayout}
-use Rattle.sis_disk.specs.Superblock.{ImageFault, ◌>>=◌, guard, field, zero_fault, magic, superblock, superblock_at}
+use Rattle.sis_disk.specs.Superblock.{ImageFault, field, zero_fault, magic, superblock, superblock_at}
+use Rattle.sis_reading.specs.Steps.{◌>>=◌, guard}
 use Rattle.sis_disk.proofs.Bytes.{IsBytes, IsBytes-drop, bytes_again}
 
 -- the field at an offset, and the bytes behind it
@@ -56,7 +57,7 @@ record Passed (a b c d e f g h : Bool) (z : Option ℕ) (x l : Layout) : Type 0 
   pub value : x ≡ l
 
 passed : (a b c d e f g h : Bool) (z : Option ℕ) (x l : Layout)
-    → (guard 0 kind.Length a >>= λ _. guard 0 kind.Magic b >>= λ _. guard 8 kind.Version c >>= λ _. guard 12 kind.Letter d >>= λ _. guard 16 kind.Total e >>= λ _. guard 16 kind.Length f >>= λ _. guard 24 kind.Area g >>= λ _. guard 32 kind.Log h >>= λ _. zero_fault z >>= λ _. Ok x) ≡ Ok l
+    → (guard (0, kind.Length) a (tt {0}) >>= λ _. guard (0, kind.Magic) b (tt {0}) >>= λ _. guard (8, kind.Version) c (tt {0}) >>= λ _. guard (12, kind.Letter) d (tt {0}) >>= λ _. guard (16, kind.Total) e (tt {0}) >>= λ _. guard (16, kind.Length) f (tt {0}) >>= λ _. guard (24, kind.Area) g (tt {0}) >>= λ _. guard (32, kind.Log) h (tt {0}) >>= λ _. zero_fault z >>= λ _. Ok x) ≡ Ok l
     → Passed a b c d e f g h z x l
 passed true b c d e f g h z x l is = absurd cc
 passed false true c d e f g h z x l is = absurd cc
@@ -140,7 +141,7 @@ unfolding superblock_at
 superblock_at-short size block short = let e : nat_lt size 4096 ≡ true = grind (arith, nat_tests) in rw e refl
 
 goes : (a b c d e f g h : Bool) (z : Option ℕ) (x l : Layout) → a ≡ false → b ≡ false → c ≡ false → d ≡ false → e ≡ false → f ≡ false → g ≡ false → h ≡ false → z ≡ None → x ≡ l
-    → (guard 0 kind.Length a >>= λ _. guard 0 kind.Magic b >>= λ _. guard 8 kind.Version c >>= λ _. guard 12 kind.Letter d >>= λ _. guard 16 kind.Total e >>= λ _. guard 16 kind.Length f >>= λ _. guard 24 kind.Area g >>= λ _. guard 32 kind.Log h >>= λ _. zero_fault z >>= λ _. Ok x) ≡ Ok l
+    → (guard (0, kind.Length) a (tt {0}) >>= λ _. guard (0, kind.Magic) b (tt {0}) >>= λ _. guard (8, kind.Version) c (tt {0}) >>= λ _. guard (12, kind.Letter) d (tt {0}) >>= λ _. guard (16, kind.Total) e (tt {0}) >>= λ _. guard (16, kind.Length) f (tt {0}) >>= λ _. guard (24, kind.Area) g (tt {0}) >>= λ _. guard (32, kind.Log) h (tt {0}) >>= λ _. zero_fault z >>= λ _. Ok x) ≡ Ok l
 goes a b c d e f g h z x l pa pb pc pd pe pf pg ph pz px = rw (pa, pb, pc, pd, pe, pf, pg, ph, pz, px) refl
 
 at_end : (k n : ℕ) → n ≤ k → cond (nat_lt k n) (Some k) None ≡ None

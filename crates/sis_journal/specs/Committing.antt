@@ -1,13 +1,8 @@
--- What a commit leaves as it was, and which call it failed by.
-use Rattle.std.specs.Prelude.{◌≡◌, ◌⊎◌, ℕ, ◌+◌, ◌*◌, ◌≤◌, Bool, List, length, take, drop, slice_range, Option, None, Some, ⊤}
+-- What a commit leaves as it was.
+use Rattle.std.specs.Prelude.{◌≡◌, ℕ, ◌+◌, ◌*◌, Bool, List, length, take, drop, slice_range, Option, None, Some, ⊤}
 use Rattle.sis_disk.specs.declared.layout.Layout.{Layout}
 use Rattle.sis_disk.specs.Areas.{area_start}
-use Rattle.sis_disk.specs.Layout.{first_place}
-use Rattle.sis_disk.specs.Record.{Seen}
-
--- the failed call was made since, and has this number; or it was refused when so many were made
-abbrev pub IsFailed : ℕ → Seen → Seen → Type 0
-IsFailed at old new = (old.calls ≤ at) × ((new.calls ≡ at + 1) ⊎ (new.calls ≡ at))
+use Rattle.sis_disk.specs.Layout.{first_byte}
 
 -- both are there, and P holds of them, or none is
 abbrev pub Both : {X : Type 0} → (X → X → Type 0) → Option X → Option X → Type 0
@@ -22,4 +17,4 @@ pub record KeepsRest (l : Layout) (second : Bool) (old new : List ℕ) : Type 0 
   pub first_block : take 4096 new ≡ take 4096 old
   pub area : slice_range new (area_start l second) (area_start l second + 4096 * l.area)
       ≡ slice_range old (area_start l second) (area_start l second + 4096 * l.area)
-  pub blocks : drop (4096 * first_place l) new ≡ drop (4096 * first_place l) old
+  pub blocks : drop (first_byte l) new ≡ drop (first_byte l) old

@@ -8,11 +8,13 @@ use Rattle.sis_disk.specs.Areas.{TextFault, area_bytes, area_start, shifted}
 use Rattle.sis_disk.specs.Layout.{table_cap}
 use Rattle.sis_disk.specs.Record.{Call, Writes, Syncs, Made, NotMade, Seen, State, live_of}
 use Rattle.sis_disk.specs.Stops.{Elapses}
-use Rattle.sis_disk.specs.Superblock.{ImageFault, ◌>>=◌, guard}
+use Rattle.sis_disk.specs.Superblock.{ImageFault}
+use Rattle.sis_reading.specs.Steps.{◌>>=◌, guard}
 use Rattle.sis_journal.specs.declared.fault.OpenFault.{OpenFault}
 use Rattle.sis_journal.specs.declared.fault.OpenFault.TheVariants as faults
-use Rattle.sis_journal.specs.Opening.{GoesOnBy, IsRead}
-use Rattle.sis_journal.specs.Texts.{KeepsText, KeepsData, settled}
+use Rattle.sis_journal.specs.Opening.{IsRead}
+use Rattle.sis_disk.specs.Stops.{GoesOnBy}
+use Rattle.sis_journal.specs.Texts.{KeepsText, KeepsData, made_stable}
 
 -- ---- opening
 
@@ -30,20 +32,13 @@ pub record OnlyReads (most : ℕ) (old new : Seen) : Type 0 where
   pub told : GoesOnBy (AllByRecursion IsRead) old.told new.told
   pub live : live_of new ≡ live_of old
 
--- reads the bytes of an area that begins at this offset
-unfoldable pub area_by : {V : Type 0} → (Layout → List ℕ → Result V TextFault) → Layout → ℕ
-    → List ℕ → Result V ImageFault
-area_by read l at area = do
-  a ← guard at kind.TableLength (nat_lt (table_cap l) (little_number 8 area))
-  shifted (at + 8) (read l (slice_range area 8 (8 + little_number 8 area)))
-
 -- ---- committing
 
 -- the call failed, or was refused
 abbrev pub Failed : (Bool → Call) → Seen → Seen → Type 0
 Failed call old new = Made (call false) old new ⊎ NotMade old new
 
--- a write, and then a sync where the write succeeded
+-- A write, and then a sync where the write succeeded.
 abbrev pub WritesStable : {T E : Type 0} → ℕ → List ℕ → Result T E → Seen → Seen → Type 0
 WritesStable at bytes (Ok x) old new =
     (mid : Seen) × Made (Writes at bytes true) old mid × Made (Syncs true) mid new
@@ -59,4 +54,4 @@ pub record IsReady (l : Layout) (second : Bool) (old new : List ℕ) (before s :
   pub area : slice_range s.live (area_start l (not second))
       (area_start l (not second) + length (area_bytes new)) ≡ area_bytes new
   pub stable : s.loose ≡ []
-  pub blocks : KeepsData l (settled before) s.live
+  pub blocks : KeepsData l (made_stable before) s.live

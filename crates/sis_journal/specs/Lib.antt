@@ -1,4 +1,5 @@
 pub mod Committing
+pub mod Formatting
 pub mod Inside
 pub mod Opening
 pub mod Texts

@@ -2,7 +2,7 @@
 use Rattle.std.specs.Prelude.{◌≡◌, ℕ, ◌+◌, ◌≤◌, true, false, List, [], ◌∷◌, Option, Some, None, Result, Err, ⊤}
 use Rattle.std.specs.List.{AllByRecursion}
 use Rattle.sis_disk.specs.Record.{Call, Reads, Writes, Syncs, DiskRecord, Seen, Rose, live_of}
-use Rattle.sis_disk.specs.Stops.{Elapses, with_calls}
+use Rattle.sis_disk.specs.Stops.{Elapses, GoesOnBy}
 use Rattle.sis_disk.specs.Superblock.{ImageFault}
 use Rattle.sis_journal.specs.declared.fault.OpenFault.{OpenFault}
 use Rattle.sis_journal.specs.declared.fault.OpenFault.TheVariants as faults
@@ -34,10 +34,17 @@ AreSyncThenReads (Syncs false ∷ more) = more ≡ []
 AreSyncThenReads (Reads at len ok ∷ more) = ⊥
 AreSyncThenReads (Writes at bytes ok ∷ more) = ⊥
 
--- the record went on by calls of this kind
-abbrev pub GoesOnBy : (List Call → Type 0) → Option DiskRecord → Option DiskRecord → Type 0
-GoesOnBy Are None new = new ≡ None
-GoesOnBy Are (Some r) new = (more : List Call) × (new ≡ Some (with_calls more r)) × Are more
+-- a sync that succeeded, and reads alone
+abbrev pub AreSyncedReads : List Call → Type 0
+AreSyncedReads [] = ⊥
+AreSyncedReads (Syncs true ∷ more) = AllByRecursion IsRead more
+AreSyncedReads (Syncs false ∷ more) = ⊥
+AreSyncedReads (Reads at len ok ∷ more) = ⊥
+AreSyncedReads (Writes at bytes ok ∷ more) = ⊥
+
+-- The sync succeeded, where the disk tells its calls.
+pub record IsSynced (old new : Seen) : Type 0 where
+  pub told : GoesOnBy AreSyncedReads old.told new.told
 
 -- A sync went by, and behind it at most so many reads. So no byte changed.
 pub record SyncThenReads (most : ℕ) (old new : Seen) : Type 0 where

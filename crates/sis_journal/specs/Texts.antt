@@ -29,11 +29,11 @@ pub record KeepsData (l : Layout) (s : State) (m : List ℕ) : Type 0 where
       → slice_index m i ≡ slice_index s.live i
 
 -- the same live bytes, and nothing loose
-abbrev pub settled : State → State
-settled s = record { live = s.live; loose = [] }
+abbrev pub made_stable : State → State
+made_stable s = record { live = s.live; loose = [] }
 
 -- what a stop within a commit may leave: the old text with the data as it was firm before, or the
 -- new text with all live data
 abbrev pub OldOrNew : Layout → List ℕ → List ℕ → State → List ℕ → Type 0
 OldOrNew l old new s m =
-    (HoldsText l old m × KeepsData l s m) ⊎ (HoldsText l new m × KeepsData l (settled s) m)
+    (HoldsText l old m × KeepsData l s m) ⊎ (HoldsText l new m × KeepsData l (made_stable s) m)

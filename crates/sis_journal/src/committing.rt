@@ -1,25 +1,26 @@
 //! The steps of a commit. Each is a write and a sync.
-ghost use Rattle.std.specs.Prelude.{◌≡◌, ◌==◌, ℕ, ◌+◌, ◌*◌, ◌≤◌, [], List, length, not, Some, OnOk, OnErr, IfErr};
+ghost use Rattle.std.specs.Prelude.{◌≡◌, ◌==◌, ℕ, ◌+◌, ◌*◌, ◌<◌, ◌≤◌, [], List, length, not, Some, OnOk, OnErr, IfErr};
 ghost use Rattle.sis_disk.specs.Areas.{area_bytes};
-ghost use Rattle.sis_disk.specs.Layout.{IsLayout, table_cap};
-ghost use Rattle.sis_disk.specs.Record.{DiskRecord, State, Rose, live_of, state_of};
+ghost use Rattle.sis_disk.specs.Causes.{GoesDown, StaysUp};
+ghost use Rattle.sis_disk.specs.Layout.{IsLayout, first_byte, table_cap};
+ghost use Rattle.sis_disk.specs.Record.{DiskRecord, State, live_of, state_of};
 ghost use Rattle.sis_disk.specs.Stops.{Elapses, Leaves, Now};
-ghost use Rattle.sis_journal.specs.Committing.{Both, IsFailed, KeepsRest};
+ghost use Rattle.sis_journal.specs.Committing.{Both, KeepsRest};
 ghost use Rattle.sis_journal.specs.Inside.{IsReady, WritesStable};
 ghost use Rattle.sis_journal.specs.Texts.{HoldsText, KeepsText, KeepsData, OldOrNew};
 
 use crate::CommitFault;
-use crate::areas::area_start;
 use sis_disk::{Disk, Layout};
 
 /// Writes bytes, and makes them stable.
-fn write_stable<D: Disk>(disk: &mut D, at: u64, bytes: &[u8]) -> Result<(), CommitFault>
+pub fn write_stable<D: Disk>(disk: &mut D, at: u64, bytes: &[u8]) -> Result<(), CommitFault>
     requires { at + length bytes.now ≤ (D.seen disk.old).size }
     ensures written { WritesStable at bytes.now result (D.seen disk.old) (D.seen disk.new) }
-    ensures cause { OnErr result (Rose (D.seen disk.old).faults (D.seen disk.new).faults) }
-    ensures at { IfErr result
-        (λ fault. (at : ℕ) × (fault ≡ CommitFault.Down at)
-        × IsFailed at (D.seen disk.old) (D.seen disk.new)) }
+    ensures up { (first : ℕ)
+        → OnOk result (StaysUp first (D.seen disk.old) (D.seen disk.new)) }
+    ensures down { (first : ℕ) → at < first → IfErr result
+        (λ fault. (call : ℕ) × (fault ≡ CommitFault.Down call)
+        × GoesDown first call (D.seen disk.old) (D.seen disk.new)) }
     ensures elapses { Elapses (D.seen disk.old) (D.seen disk.new) }
     ensures calls { (D.seen disk.new).calls ≤ (D.seen disk.old).calls + 2 }
 {
@@ -54,14 +55,15 @@ pub fn write_area<D: Disk>(
         → Now (IsReady layout.now second old new (state_of r)) (D.seen disk.new)) }
     ensures rest { Both (KeepsRest layout.now second)
         (live_of (D.seen disk.old)) (live_of (D.seen disk.new)) }
-    ensures cause { OnErr result (Rose (D.seen disk.old).faults (D.seen disk.new).faults) }
-    ensures at { IfErr result
-        (λ fault. (at : ℕ) × (fault ≡ CommitFault.Down at)
-        × IsFailed at (D.seen disk.old) (D.seen disk.new)) }
+    ensures up { OnOk result
+        (StaysUp (first_byte layout.now) (D.seen disk.old) (D.seen disk.new)) }
+    ensures down { IfErr result
+        (λ fault. (call : ℕ) × (fault ≡ CommitFault.Down call)
+        × GoesDown (first_byte layout.now) call (D.seen disk.old) (D.seen disk.new)) }
     ensures elapses { Elapses (D.seen disk.old) (D.seen disk.new) }
     ensures calls { (D.seen disk.new).calls ≤ (D.seen disk.old).calls + 2 }
 {
-    write_stable(disk, area_start(layout, !second), bytes)
+    write_stable(disk, layout.area_start(!second), bytes)
 }
 
 /// The selector's byte that selects this area.
@@ -84,10 +86,11 @@ pub fn select_other<D: Disk>(disk: &mut D, layout: &Layout, second: bool) -> Res
         (D.seen disk.new)) }
     ensures rest { Both (KeepsRest layout.now second)
         (live_of (D.seen disk.old)) (live_of (D.seen disk.new)) }
-    ensures cause { OnErr result (Rose (D.seen disk.old).faults (D.seen disk.new).faults) }
-    ensures at { IfErr result
-        (λ fault. (at : ℕ) × (fault ≡ CommitFault.Down at)
-        × IsFailed at (D.seen disk.old) (D.seen disk.new)) }
+    ensures up { OnOk result
+        (StaysUp (first_byte layout.now) (D.seen disk.old) (D.seen disk.new)) }
+    ensures down { IfErr result
+        (λ fault. (call : ℕ) × (fault ≡ CommitFault.Down call)
+        × GoesDown (first_byte layout.now) call (D.seen disk.old) (D.seen disk.new)) }
     ensures elapses { Elapses (D.seen disk.old) (D.seen disk.new) }
     ensures calls { (D.seen disk.new).calls ≤ (D.seen disk.old).calls + 2 }
 {

@@ -1,16 +1,17 @@
 //! A journal: opened from a disk, and committed to it.
-ghost use Rattle.std.specs.Prelude.{◌≡◌, ℕ, ◌+◌, ◌*◌, ◌≤◌, [], List, Ok, Some, length, not, IfOk, IfErr, IfSome, OnOk, OnErr};
+ghost use Rattle.std.specs.Prelude.{◌≡◌, ℕ, ◌+◌, ◌*◌, ◌≤◌, [], List, Ok, Some, length, not, IfOk, IfErr, IfSome, IsErrOf, OnOk, OnErr};
 ghost use Rattle.sis_disk.specs.Areas.{read_by};
-ghost use Rattle.sis_disk.specs.Layout.{IsLayout, table_cap};
-ghost use Rattle.sis_disk.specs.Record.{DiskRecord, Rose, live_of, state_of};
+ghost use Rattle.sis_disk.specs.Causes.{GoesDown, StaysUp};
+ghost use Rattle.sis_disk.specs.Layout.{IsLayout, first_byte, table_cap};
+ghost use Rattle.sis_disk.specs.Record.{DiskRecord, live_of, state_of};
 ghost use Rattle.sis_disk.specs.Stops.{Elapses, Leaves, Now};
-ghost use Rattle.sis_journal.specs.Committing.{Both, IsFailed, KeepsRest};
-ghost use Rattle.sis_journal.specs.Opening.{Caused, FailsAs, SyncThenReads};
+ghost use Rattle.sis_journal.specs.Committing.{Both, KeepsRest};
+ghost use Rattle.sis_journal.specs.Opening.{Caused, FailsAs, IsSynced, SyncThenReads};
 ghost use Rattle.sis_journal.specs.Texts.{KeepsText, OldOrNew};
 
 use crate::areas::spell_area;
 use crate::committing::{select_other, write_area};
-use crate::opening::{read_image, settle};
+use crate::opening::{read_image, sync_first};
 use crate::{CommitFault, Kept, OpenFault};
 use sis_disk::{Disk, Layout};
 use std::alloc::Global;
@@ -40,9 +41,10 @@ impl Model for Journal {
 }
 
 impl Journal {
-    /// Opens a disk by a sync and at most three reads, and gives the value that it keeps.
+    /// Opens a disk by a sync and at most four reads, and gives the value that it keeps.
     ///
-    /// The sync comes first: what is read is then what every later stop leaves.
+    /// The sync comes first: what is read is then what every later stop leaves. Of the selected area
+    /// the text's length is read, and then the text alone.
     pub fn open<D: Disk, K: Kept>(
         alloc: Global,
         disk: &mut D,
@@ -66,14 +68,17 @@ impl Journal {
         ensures cause { IfErr result
             (λ fault. Caused fault (D.seen disk.old).faults (D.seen disk.new).faults) }
 
-        ensures calls { SyncThenReads 3 (D.seen disk.old) (D.seen disk.new) }
+        // The sync succeeded, unless the disk failed.
+        ensures calls { SyncThenReads 4 (D.seen disk.old) (D.seen disk.new) }
+        ensures synced { (IsErrOf result OpenFault.Disk → ⊥)
+            → IsSynced (D.seen disk.old) (D.seen disk.new) }
     {
-        settle(disk)?;
+        sync_first(disk)?;
         let (area, layout, value) = read_image(alloc, disk)?;
         let journal = Journal {
             layout,
             second: area.second,
-            buffer: area.bytes,
+            buffer: area.buffer,
         };
         Ok((journal, layout, value))
     }
@@ -110,11 +115,13 @@ impl Journal {
         ensures rest { Both (KeepsRest self.old.layout self.old.second)
             (live_of (D.seen disk.old)) (live_of (D.seen disk.new)) }
 
-        // Only the disk makes it fail, and the fault names the call.
-        ensures cause { OnErr result (Rose (D.seen disk.old).faults (D.seen disk.new).faults) }
-        ensures at { IfErr result
-            (λ fault. (at : ℕ) × (fault ≡ CommitFault.Down at)
-            × IsFailed at (D.seen disk.old) (D.seen disk.new)) }
+        // Only the disk makes it fail. The fault names the first call that failed, or was refused, and
+        // no call follows it.
+        ensures up { OnOk result
+            (StaysUp (first_byte self.old.layout) (D.seen disk.old) (D.seen disk.new)) }
+        ensures down { IfErr result
+            (λ fault. (call : ℕ) × (fault ≡ CommitFault.Down call)
+            × GoesDown (first_byte self.old.layout) call (D.seen disk.old) (D.seen disk.new)) }
         ensures calls { (D.seen disk.new).calls ≤ (D.seen disk.old).calls + 4 }
         ensures elapses { Elapses (D.seen disk.old) (D.seen disk.new) }
     {

@@ -7,11 +7,13 @@ ghost use Rattle.sis_journal.specs.View.{FailsText, IsWithin};
 
 use sis_disk::{Layout, TableKind};
 use std::alloc::{AllocError, Global};
+use thiserror::Error;
 
 /// Why some bytes were not read as a value.
-#[derive(Clone, Copy, Debug, PartialEq, Eq)]
+#[derive(Clone, Copy, Debug, PartialEq, Eq, Error)]
 pub enum KeptFault {
     /// They spell none.
+    #[error("byte {at}: {kind}")]
     At {
         /// The offset of the first field whose rule fails.
         at: u64,
@@ -19,6 +21,7 @@ pub enum KeptFault {
         kind: TableKind,
     },
     /// There was no memory.
+    #[error("out of memory")]
     Memory,
 }
 

@@ -5,6 +5,7 @@
 mod areas;
 mod committing;
 mod fault;
+mod formatting;
 mod journal;
 mod kept;
 mod opening;
@@ -12,6 +13,6 @@ mod superblock;
 #[cfg(test)]
 mod tests;
 
-pub use fault::{CommitFault, OpenFault};
+pub use fault::{CommitFault, FormatFault, OpenFault};
 pub use journal::Journal;
 pub use kept::{Kept, KeptFault};

@@ -1,7 +1,12 @@
-use Rattle.std.proofs.Common.{◌≡◌, length, inl, ap, ◌∙◌, arith}
+use Rattle.std.proofs.Common.{◌≡◌, ℕ, length, inl, ap, ◌∙◌, arith}
 use Rattle.sis_disk.specs.Areas.{area_bytes}
 use Rattle.sis_disk.specs.Record.{live_of, state_of}
+use Rattle.sis_disk.specs.Causes.{GoesDown}
+use Rattle.sis_disk.specs.Layout.{first_byte}
+use Rattle.sis_disk.proofs.GoesOn.{up_down, up_trans}
 use Rattle.sis_disk.proofs.Images.{leaves_trans, leaves_weaker}
+use Rattle.sis_journal.specs.declared.fault.CommitFault.TheVariants.{Down}
+use Rattle.sis_journal.proofs.Readings.{passed_on}
 use Rattle.sis_journal.specs.Texts.{HoldsText, KeepsData, OldOrNew}
 use Rattle.sis_journal.proofs.Commits.{area_fits, rest_trans}
 use Rattle.sis_journal.proofs.journal.Journal.commit.Goals as goal
@@ -50,3 +55,25 @@ pub returns-clause-rest : goal.returns-clause-rest
 returns-clause-rest g c =
     rw (← c.self.view_is) (rest_trans c.self.inside.layout c.self.invariant.0 c.self.inside.second (live_of (g.D.Disk.seen c.args.disk.now)) (live_of (g.D.Disk.seen c.write_area.new.disk)) (live_of (g.D.Disk.seen c.select_other.new.disk))
     c.write_area.ensures.rest c.select_other.ensures.rest)
+
+pub returns-clause-up : goal.returns-clause-up
+returns-clause-up g c =
+    rw (← c.self.view_is) (up_trans (first_byte c.self.inside.layout) (g.D.Disk.seen c.args.disk.now)
+    (g.D.Disk.seen c.write_area.new.disk) (g.D.Disk.seen c.select_other.new.disk)
+    c.in_ok-write_area.ensures.up c.in_ok-select_other.ensures.up)
+
+pub returns-in_err-select_other-clause-down : goal.returns-in_err-select_other-clause-down
+returns-in_err-select_other-clause-down g c = rw (← c.self.view_is) (
+    let first = first_byte c.self.inside.layout in
+    let old = g.D.Disk.seen c.args.disk.now in
+    let mid = g.D.Disk.seen c.write_area.new.disk in
+    let new = g.D.Disk.seen c.select_other.new.disk in
+    let down = c.in_err-select_other.ensures.down in
+    passed_on c.from_residual-in_err-select_other.result c.in_err-select_other.field-0.0
+    (λ fault. (call : ℕ) × (fault ≡ Down call) × GoesDown first call old new)
+    c.from_residual-in_err-select_other.ensures.1 (
+      down.0,
+      down.1,
+      up_down first down.0 old mid new c.write_area.ensures.elapses
+          c.in_ok-write_area.ensures.up down.2,
+    ))
