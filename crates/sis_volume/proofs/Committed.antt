@@ -9,31 +9,23 @@ use Rattle.sis_disk.specs.Record.{DiskRecord, Seen, State, is_loose, live_bytes,
 use Rattle.sis_disk.specs.Stops.{IsFirm, Leaves, Now, Shows}
 use Rattle.sis_disk.proofs.Images.{leaves_weaker}
 use Rattle.sis_journal.specs.Committing.{Both, KeepsRest}
-use Rattle.sis_journal.specs.Texts.{HoldsText, KeepsData, KeepsText, OldOrNew, settled}
+use Rattle.sis_journal.specs.Texts.{HoldsText, KeepsData, KeepsText, OldOrNew, made_stable}
 use Rattle.sis_journal.specs.View.{JournalView}
-use Rattle.sis_table.specs.Content.{Files, files_of}
+use Rattle.sis_table.specs.Content.{files_of}
+use Rattle.sis_name.specs.Files.{Files}
 use Rattle.sis_table.specs.Good.{IsGood}
 use Rattle.sis_table.specs.Image.{Holds}
 use Rattle.sis_table.specs.Opens.{OpensAs}
 use Rattle.sis_table.specs.Spelling.{spelling}
 use Rattle.sis_table.specs.Volume.{VolumeTable, IsTable, is_used, used_places}
 use Rattle.sis_table.proofs.ContentLemmas.{files_of-same}
-use Rattle.sis_table.proofs.PutLemmas.{get-used_places, is_used-between, length-used_places}
-use Rattle.sis_volume.specs.Kept.{HasCommitted, IsCovered, IsKept, KeepsTable}
-use Rattle.sis_volume.specs.Stopping.{IsCommitted, MayCommit, OpensTable}
+use Rattle.sis_table.proofs.PutLemmas.{is_used-between}
+use Rattle.sis_volume.specs.Invariant.{HasCommitted, IsCovered, IsVolume, KeepsTable}
+use Rattle.sis_volume.specs.Stopping.{IsCommitted, MayCommit, OnlyOpens, OpensTable}
 use Rattle.sis_volume.specs.View.{VolumeView}
 use Rattle.sis_volume.proofs.Fronts.{files-data, kept-opens, text-holds, text-opens, text-read}
 use Rattle.sis_volume.proofs.Staged.{leaves_none}
-use Rattle.sis_volume.proofs.Volumes.{live_is_image, now_of, one_reading}
-
--- a table's places have their bits among those of its mapped places
-pub covered-used : (v : VolumeTable) → IsTable v → IsCovered v (used_places v)
-covered-used v table place used =
-    let between = is_used-between v place table used in
-    let low = between.0 in
-    let high = between.1 in
-    let there : first_place v.layout + (place - first_place v.layout) ≡ place = omega arith in
-    get-used_places v (place - first_place v.layout) (omega arith) ∙ ap (is_used v.nodes) there ∙ used
+use Rattle.sis_volume.proofs.Volumes.{covered-used, live_is_image, now_of, one_reading}
 
 -- nothing is loose, so what is mapped isn't
 pub firm-none : (s : State) (at n : ℕ) → s.loose ≡ [] → IsFirm s.loose at n
@@ -74,7 +66,7 @@ either_opens v c second s files m table log good c_table same keeps opens (inl o
 either_opens v c second s files m table log good c_table same keeps opens (inr new) =
     let size : length s.live ≡ 4096 * v.layout.total = keeps.text.holds.size ∙ ap (λ (l : Layout). 4096 * l.total) same in
     inr (text-opens v m (files_of v s.live) table log good (subst (λ (l : Layout). HoldsText l (spelling v) m) same new.0)
-    (sym (files-data v (settled s) m table size (λ place used. firm-none (settled s) (4096 * place) 4096 refl) (subst (λ (l : Layout). KeepsData l (settled s) m) same new.1))))
+    (sym (files-data v (made_stable s) m table size (λ place used. firm-none (made_stable s) (4096 * place) 4096 refl) (subst (λ (l : Layout). KeepsData l (made_stable s) m) same new.1))))
 
 -- so at every moment of a commit
 pub may_commit : (v : VolumeTable) (l : Layout) (second is_changed : Bool) (held : List Bool) (old new : Seen) → l ≡ v.layout → IsTable v → v.layout.log ≡ 0 → HasCommitted v second held is_changed old
@@ -91,6 +83,9 @@ may_commit v l second is_changed held old new is table log h images good files o
     (images r (spelling c) told text)
 
 -- where no call is made
+pub no_call : (seen : Seen) → OnlyOpens seen seen
+no_call seen files opens = record { told = leaves_none (OpensAs files) seen.told opens }
+
 pub no_commit : (v : VolumeTable) (old : Seen) → MayCommit v old old
 no_commit v old good files opens r told = record { told = leaves_none (λ m. OpensAs files m ⊎ OpensAs (files_of v (live_bytes r)) m) old.told (λ q is m image. inl (opens q is m image)) }
 
@@ -138,69 +133,67 @@ none_told l second None (Some new) both e = absurd both
 none_told l second (Some old) new both e = absurd cc
 
 -- what a volume keeps then
-pub kept-committed : (v : VolumeTable) (j now : JournalView) (mapped held bits : List Bool) (was : Bool) (down : Option ℕ) (old new : Seen) → now.layout ≡ j.layout → now.second ≡ not j.second
-    → new.size ≡ old.size → bits ≡ mapped → HasCommitted v (not j.second) (used_places v) false new → IsKept v j mapped held was down old → IsKept v now mapped bits false down new
-kept-committed v j now mapped held bits was down old new same other size is committed h =
-    let all : bits ≡ used_places v = is ∙ h.used in
-    record {
-      table = h.table;
-      fits = h.fits;
-      log = h.log;
-      journal = same ∙ h.journal;
-      size = size ∙ h.size;
-      used = h.used;
-      bits = ap (λ (xs : List Bool). length xs) all ∙ length-used_places v;
-      covered = subst (IsCovered v) (sym all) (covered-used v h.table);
-      unchanged = λ e. all;
-      committed = λ up. subst (λ (b : Bool). HasCommitted v b bits false new) (sym other) (subst (λ (xs : List Bool). HasCommitted v (not j.second) xs false new) (sym all) committed);
-    }
-
--- what it keeps where the commit failed
-pub kept-down : (v : VolumeTable) (j now : JournalView) (mapped held : List Bool) (was : Bool) (at : ℕ) (down : Option ℕ) (old new : Seen) → now.layout ≡ j.layout
-    → new.size ≡ old.size → IsKept v j mapped held was down old → IsKept v now mapped held was (Some at) new
-kept-down v j now mapped held was at down old new same size h = record {
+pub kept-committed : (v : VolumeTable) (j now : JournalView) (held : List Bool) (was : Bool)
+    (down : Option ℕ) (old new : Seen) → now.layout ≡ j.layout → now.second ≡ not j.second
+    → new.size ≡ old.size → HasCommitted v (not j.second) (used_places v) false new
+    → IsVolume v j held was down old → IsVolume v now held false down new
+kept-committed v j now held was down old new same other size committed h = record {
   table = h.table;
   fits = h.fits;
   log = h.log;
   journal = same ∙ h.journal;
   size = size ∙ h.size;
   used = h.used;
-  bits = h.bits;
-  covered = h.covered;
-  unchanged = h.unchanged;
+  committed = λ up. subst (λ (b : Bool). HasCommitted v b held false new) (sym other)
+      (subst (λ (xs : List Bool). HasCommitted v (not j.second) xs false new) (sym h.used) committed);
+}
+
+-- what it keeps where the commit failed
+pub kept-down : (v : VolumeTable) (j now : JournalView) (held : List Bool) (was : Bool) (at : ℕ)
+    (down : Option ℕ) (old new : Seen) → now.layout ≡ j.layout → new.size ≡ old.size
+    → IsVolume v j held was down old → IsVolume v now held was (Some at) new
+kept-down v j now held was at down old new same size h = record {
+  table = h.table;
+  fits = h.fits;
+  log = h.log;
+  journal = same ∙ h.journal;
+  size = size ∙ h.size;
+  used = h.used;
   committed = λ up. absurd cc;
 }
 
 -- where the table wasn't edited
-pub unchanged_committed : (v : VolumeView) (j : JournalView) (mapped : List Bool) → v.is_changed ≡ false → v.down ≡ None → IsKept v.table j mapped v.held v.is_changed v.down v.seen → IsCommitted v v
-unchanged_committed v j mapped same up h =
-    let bits : v.held ≡ used_places v.table = h.unchanged same in
-    record {
-      same = ap₂ (λ (xs : List Bool) (b : Bool). record v { seen = v.seen; held = xs; is_changed = b }) bits same;
-      up = up;
-      opens = λ good. opens-committed v.table j.second v.held v.seen h.log good (subst (λ (b : Bool). HasCommitted v.table j.second v.held b v.seen) same (h.committed up));
-    }
+pub unchanged_committed : (v : VolumeView) (j : JournalView) → v.is_changed ≡ false → v.down ≡ None
+    → IsVolume v.table j v.held v.is_changed v.down v.seen → IsCommitted v v
+unchanged_committed v j same up h = record {
+  same = ap₂ (λ (xs : List Bool) (b : Bool).
+      record v { seen = v.seen; held = xs; is_changed = b }) h.used same;
+  up = up;
+  opens = λ good. opens-committed v.table j.second v.held v.seen h.log good
+      (subst (λ (b : Bool). HasCommitted v.table j.second v.held b v.seen) same (h.committed up));
+}
 
 -- what a volume keeps that was opened
-pub kept-opened : (v : VolumeTable) (j : JournalView) (l : Layout) (mapped held : List Bool) (seen : Seen) → v.layout ≡ l → j.layout ≡ l → l.log ≡ 0 → seen.size ≡ 4096 * l.total
-    → length (spelling v) ≤ table_cap l → IsTable v → mapped ≡ used_places v → held ≡ used_places v → Now (KeepsText l j.second (spelling v)) seen → Now (λ s. s.loose ≡ []) seen
-    → IsKept v j mapped held false None seen
-kept-opened v j l mapped held seen is is_j log size fits table used bits keeps stable = record {
+pub kept-opened : (v : VolumeTable) (j : JournalView) (l : Layout) (held : List Bool) (seen : Seen)
+    → v.layout ≡ l → j.layout ≡ l → l.log ≡ 0 → seen.size ≡ 4096 * l.total
+    → length (spelling v) ≤ table_cap l → IsTable v → held ≡ used_places v
+    → Now (KeepsText l j.second (spelling v)) seen → Now (λ s. s.loose ≡ []) seen
+    → IsVolume v j held false None seen
+kept-opened v j l held seen is is_j log size fits table used keeps stable = record {
   table = table;
   fits = subst (λ (x : Layout). length (spelling v) ≤ table_cap x) (sym is) fits;
   log = ap (λ (x : Layout). x.log) is ∙ log;
   journal = is_j ∙ sym is;
   size = size ∙ ap (λ (x : Layout). 4096 * x.total) (sym is);
   used = used;
-  bits = ap (λ (xs : List Bool). length xs) bits ∙ length-used_places v;
-  covered = subst (IsCovered v) (sym bits) (covered-used v table);
-  unchanged = λ e. bits;
   committed = λ up. record {
     committed = v;
     table = table;
     layout = refl;
-    covered = subst (IsCovered v) (sym bits) (covered-used v table);
+    covered = subst (IsCovered v) (sym used) (covered-used v table);
     same = λ e. refl;
-    stays = λ r told. keeps-stable j.second v (state_of r) (subst (λ (x : Layout). KeepsText x j.second (spelling v) (state_of r)) (sym is) (keeps r told)) (stable r told);
+    stays = λ r told. keeps-stable j.second v (state_of r)
+        (subst (λ (x : Layout). KeepsText x j.second (spelling v) (state_of r)) (sym is)
+        (keeps r told)) (stable r told);
   };
 }

@@ -11,7 +11,8 @@ use Rattle.sis_disk.specs.Stops.{IsFirm}
 use Rattle.sis_disk.proofs.Areas.{area_end, length-area_bytes}
 use Rattle.sis_journal.specs.Texts.{HoldsText, KeepsData}
 use Rattle.sis_journal.proofs.HeldTexts.{read_by-held}
-use Rattle.sis_table.specs.Content.{Files, files_of}
+use Rattle.sis_table.specs.Content.{files_of}
+use Rattle.sis_name.specs.Files.{Files}
 use Rattle.sis_table.specs.Good.{IsGood}
 use Rattle.sis_table.specs.Image.{Holds, image_at}
 use Rattle.sis_table.specs.Opens.{OpensAs}
@@ -21,7 +22,7 @@ use Rattle.sis_table.specs.Volume.{VolumeTable, IsTable, is_used}
 use Rattle.sis_table.proofs.ContentLemmas.{files_of-same}
 use Rattle.sis_table.proofs.PutLemmas.{is_used-between}
 use Rattle.sis_table.proofs.ReadingLaws.{table_at-only}
-use Rattle.sis_volume.specs.Kept.{KeepsTable}
+use Rattle.sis_volume.specs.Invariant.{KeepsTable}
 use Rattle.sis_volume.proofs.Slices.{slice_same, take_same}
 
 pub slice_kept : (old new : List ℕ) (n a b : ℕ) → take n new ≡ take n old → b ≤ n → slice_range new a b ≡ slice_range old a b

@@ -1,11 +1,10 @@
 mod Applied
 mod Bitmaps
-mod Calls
 mod Committed
 mod Covered
 mod Edited
 pub mod Fronts
-pub mod HeldLaws
+pub mod ImageLaws
 pub mod NewImages
 mod SetBits
 mod Slices
@@ -13,5 +12,6 @@ mod Spared
 mod Spares
 mod Staged
 mod Unheld
+pub mod Stopping
 pub mod Volumes
 mod Written

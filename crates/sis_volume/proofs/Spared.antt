@@ -6,7 +6,8 @@ use Rattle.std.proofs.lemmas.Bool.{cases_lt}
 use Rattle.std.proofs.lemmas.List.{length-take-le}
 use Rattle.std.proofs.lemmas.Bool.Decides.{nat_tests}
 use Rattle.sis_disk.specs.declared.layout.Layout.{Layout}
-use Rattle.sis_disk.specs.Layout.{first_place}
+use Rattle.sis_disk.specs.Layout.{first_byte, first_place}
+use Rattle.sis_disk.proofs.GoesOn.{up_refl, up_trans, up_write}
 use Rattle.sis_disk.specs.Record.{DiskRecord, Made, Seen, State, Went, Writes, after, live_bytes, state_of, with_call}
 use Rattle.sis_disk.specs.Stops.{Leaves, Shows, loosened}
 use Rattle.sis_disk.proofs.Images.{leaves_trans, leaves_weaker, leaves_write}
@@ -15,7 +16,7 @@ use Rattle.sis_disk.proofs.Push.{state_with}
 use Rattle.sis_table.specs.Runs.{place_end}
 use Rattle.sis_table.specs.declared.runs.Run.{Run}
 use Rattle.sis_volume.specs.Keeping.{AgreesOut, IsNextRun, KeepsOut, WritesSpare, is_spare}
-use Rattle.sis_volume.specs.Kept.{is_held}
+use Rattle.sis_volume.specs.Invariant.{is_held}
 use Rattle.sis_volume.specs.Staging.{IsUnheld}
 
 -- one record is told
@@ -158,12 +159,13 @@ module _ (l : Layout) (held : List Bool) where
 
     -- a write to spare positions, whatever it answers
     pub write_spare : {T E : Type 0} (result : Result T E) (old new : Seen) → Went (Writes at bytes) result old new
-        → IfSome old.told (λ r. length (live_bytes r) ≡ old.size) → at + length bytes ≤ old.size → WritesSpare l held from old new
-    write_spare result old new went sized within =
+        → IfSome old.told (λ r. length (live_bytes r) ≡ old.size) → first_byte l ≤ at → at + length bytes ≤ old.size → WritesSpare l held from old new
+    write_spare result old new went sized behind within =
         let fits : (r : DiskRecord) → old.told ≡ Some r → at + length bytes ≤ length (live_bytes r) =
         λ r is. (let len = some_is (λ x. length (live_bytes x) ≡ old.size) old.told r is sized in omega arith) in
         record {
           elapses = record { size = went.size; calls = rises result old new went; faults = went.faults };
+          up = up_write (first_byte l) at bytes result old new behind went;
           untold = none_told result old new went;
           keeps = λ r is. write_keeps result old new went r is (fits r is);
           images = λ r is. leaves_write (AgreesOut l held from (state_of r)) at bytes result old new went (λ q is_q.
@@ -174,6 +176,7 @@ module _ (l : Layout) (held : List Bool) where
   pub writes_none : (from : ℕ) (seen : Seen) → ((r : DiskRecord) → seen.told ≡ Some r → Leaves (AgreesOut l held from (state_of r)) seen seen) → WritesSpare l held from seen seen
   writes_none from seen leaves = record {
     elapses = record { size = refl; calls = omega arith; faults = omega arith };
+    up = up_refl (first_byte l) seen;
     untold = λ none. none;
     keeps = λ r is. (r, is, keeps-refl from (state_of r));
     images = leaves;
@@ -190,6 +193,7 @@ module _ (l : Layout) (held : List Bool) where
       let more = b.faults in
       record {
         elapses = record { size = b.size ∙ a.size; calls = omega arith; faults = omega arith };
+        up = up_trans (first_byte l) old now new one.up two.up;
         untold = λ none. two.untold (one.untold none);
         keeps = λ r is. (let s = one.keeps r is in let t = two.keeps s.0 s.1 in
             (t.0, t.1, keeps-trans from (state_of r) (state_of s.0) (state_of t.0) s.2 (keeps-later from mid (state_of s.0) (state_of t.0) le t.2)));
@@ -208,4 +212,4 @@ module _ (l : Layout) (held : List Bool) where
       let high = next.high in
       let len : length (take (4096 * r.count) bytes) ≡ 4096 * r.count = length-take-le (4096 * r.count) bytes (omega arith) in
       write_spare from (4096 * r.place) (take (4096 * r.count) bytes) (λ i ge lt. run_spare from i r next.behind next.low next.unheld ge (omega arith))
-      result old new went sized (omega arith)
+      result old new went sized (let low = next.low in omega arith) (omega arith)

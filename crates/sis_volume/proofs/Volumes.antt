@@ -1,24 +1,25 @@
 -- What a volume keeps where spare places are written.
-use Rattle.std.proofs.Common.{◌≡◌, ℕ, ◌+◌, ◌*◌, ◌<◌, ◌≤◌, Bool, true, false, List, length, slice_index, Option, Some, None, refl, sym, ap, ◌∙◌, subst, arith}
+use Rattle.std.proofs.Common.{◌≡◌, ℕ, ◌+◌, ◌-◌, ◌*◌, ◌<◌, ◌≤◌, Bool, true, false, List, length, slice_index, Option, Some, None, refl, sym, ap, ◌∙◌, subst, arith}
 use Rattle.std.specs.Prelude.{Ok, ◌==◌}
 use Rattle.std.specs.Option.{option_map}
 use Rattle.sis_disk.specs.declared.layout.Layout.{Layout}
-use Rattle.sis_disk.specs.Layout.{first_place}
+use Rattle.sis_disk.specs.Layout.{data_blocks, first_place}
 use Rattle.sis_disk.specs.Record.{DiskRecord, IsImage, Seen, State, live_bytes, live_of, state_of}
 use Rattle.sis_disk.specs.Stops.{GoesOn, Leaves, Now}
 use Rattle.sis_disk.proofs.Images.{leaves_weaker}
 use Rattle.sis_journal.specs.Texts.{HoldsText}
 use Rattle.sis_journal.specs.View.{JournalView}
-use Rattle.sis_table.specs.Content.{Files, files_of}
+use Rattle.sis_table.specs.Content.{files_of}
+use Rattle.sis_name.specs.Files.{Files}
 use Rattle.sis_table.specs.Good.{IsGood}
 use Rattle.sis_table.specs.Image.{image_at}
 use Rattle.sis_table.specs.Opens.{OpensAs}
 use Rattle.sis_table.specs.Spelling.{spelling}
-use Rattle.sis_table.specs.Volume.{VolumeTable, IsTable, is_used}
+use Rattle.sis_table.specs.Volume.{VolumeTable, IsTable, is_used, used_places}
 use Rattle.sis_table.proofs.ContentLemmas.{files_of-same}
-use Rattle.sis_table.proofs.PutLemmas.{is_used-between}
+use Rattle.sis_table.proofs.PutLemmas.{get-used_places, is_used-between, length-used_places}
 use Rattle.sis_volume.specs.Keeping.{AgreesOut, KeepsOut, WritesSpare, is_spare}
-use Rattle.sis_volume.specs.Kept.{HasCommitted, IsCovered, IsKept, KeepsTable, is_held}
+use Rattle.sis_volume.specs.Invariant.{HasCommitted, IsCovered, IsVolume, KeepsTable, is_held}
 use Rattle.sis_volume.specs.Stopping.{OnlyOpens}
 use Rattle.sis_volume.proofs.Fronts.{front-image, text-front, text-opens, text-read}
 use Rattle.sis_volume.proofs.Slices.{slice_same, take_same}
@@ -42,6 +43,27 @@ one_reading m v w is_v is_w = let both : Ok v ≡ Ok w = sym is_v ∙ is_w in cc
 
 pub live_is_image : (s : State) → IsImage s s.live
 live_is_image s = record { size = refl; same = λ i lt firm. refl }
+
+-- a table's places have their bits among those of its mapped places
+pub covered-used : (v : VolumeTable) → IsTable v → IsCovered v (used_places v)
+covered-used v table place used =
+    let between = is_used-between v place table used in
+    let low = between.0 in
+    let high = between.1 in
+    let there : first_place v.layout + (place - first_place v.layout) ≡ place = omega arith in
+    get-used_places v (place - first_place v.layout) (omega arith) ∙ ap (is_used v.nodes) there ∙ used
+
+-- the held places of a volume have those of its table, and a bit for each data block
+pub covered-kept : (v : VolumeTable) (j : JournalView) (held : List Bool) (is_changed : Bool)
+    (down : Option ℕ) (seen : Seen) → IsVolume v j held is_changed down seen → IsCovered v held
+covered-kept v j held is_changed down seen h =
+    subst (IsCovered v) (sym h.used) (covered-used v h.table)
+
+pub bits-kept : (v : VolumeTable) (j : JournalView) (held : List Bool) (is_changed : Bool)
+    (down : Option ℕ) (seen : Seen) → IsVolume v j held is_changed down seen
+    → length held ≡ data_blocks v.layout
+bits-kept v j held is_changed down seen h =
+    ap (λ (bits : List Bool). length bits) h.used ∙ length-used_places v
 
 module _ (l : Layout) (held : List Bool) (from : ℕ) where
   -- a table's files, where its places are held
@@ -120,25 +142,23 @@ module _ (l : Layout) (held : List Bool) (from : ℕ) where
     stays = now_kept (KeepsTable second h.committed) old new writes (λ s t out keeps. keeps-table second h.committed s t (h.layout ∙ is) h.table h.covered out keeps) h.stays;
   }
 
-  pub kept-staged : (v : VolumeTable) (j : JournalView) (mapped : List Bool) (is_changed : Bool) (down : Option ℕ) (old new : Seen) → v.layout ≡ l → WritesSpare l held from old new
-      → IsKept v j mapped held is_changed down old → IsKept v j mapped held is_changed down new
-  kept-staged v j mapped is_changed down old new is writes h = record {
+  pub kept-staged : (v : VolumeTable) (j : JournalView) (is_changed : Bool) (down : Option ℕ)
+      (old new : Seen) → v.layout ≡ l → WritesSpare l held from old new
+      → IsVolume v j held is_changed down old → IsVolume v j held is_changed down new
+  kept-staged v j is_changed down old new is writes h = record {
     table = h.table;
     fits = h.fits;
     log = h.log;
     journal = h.journal;
     size = writes.elapses.size ∙ h.size;
     used = h.used;
-    bits = h.bits;
-    covered = h.covered;
-    unchanged = h.unchanged;
     committed = λ up. committed-staged v j.second is_changed old new is writes (h.committed up);
   }
 
   -- at no moment a stop leaves other files
-  pub only_opens : (v : VolumeTable) (j : JournalView) (mapped : List Bool) (is_changed : Bool) (down : Option ℕ) (old new : Seen) → v.layout ≡ l → down ≡ None
-      → IsKept v j mapped held is_changed down old → WritesSpare l held from old new → OnlyOpens old new
-  only_opens v j mapped is_changed down old new is up h writes files opens =
+  pub only_opens : (v : VolumeTable) (j : JournalView) (is_changed : Bool) (down : Option ℕ) (old new : Seen) → v.layout ≡ l → down ≡ None
+      → IsVolume v j held is_changed down old → WritesSpare l held from old new → OnlyOpens old new
+  only_opens v j is_changed down old new is up h writes files opens =
       let c = h.committed up in
       leaves_told (OpensAs files) old new writes.untold (λ r told.
       leaves_weaker (AgreesOut l held from (state_of r)) (OpensAs files) old new

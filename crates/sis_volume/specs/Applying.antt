@@ -1,5 +1,5 @@
 -- What edits do to the bitmap of a volume, and why they may be hindered.
-use Rattle.std.specs.Prelude.{◌≡◌, ℕ, ◌+◌, ◌-◌, ◌<◌, ◌≤◌, Bool, true, List, [], ◌∷◌, ◌++◌, take, drop, replicate, ⊤}
+use Rattle.std.specs.Prelude.{◌≡◌, ℕ, ◌+◌, ◌-◌, ◌<◌, ◌≤◌, Bool, true, false, List, [], ◌∷◌, ◌++◌, take, drop, replicate, ⊤}
 use Rattle.sis_table.specs.declared.edit.Edit.{Edit}
 use Rattle.sis_table.specs.declared.edit.Edit.TheVariants as edit
 use Rattle.sis_model.specs.declared.reply.Hindrance.{Hindrance}
@@ -14,6 +14,11 @@ HindersApplying len cap (hindrance.Limit kind) = ⊥
 HindersApplying len cap (hindrance.Full needed used total) = ⊥
 HindersApplying len cap hindrance.Disk = ⊥
 HindersApplying len cap (hindrance.Down at) = ⊥
+
+-- there is an edit
+abbrev pub is_edit : List Edit → Bool
+is_edit [] = false
+is_edit (e ∷ es) = true
 
 -- these bits with `count` of them set from `start` on
 abbrev pub set_bits : ℕ → ℕ → List Bool → List Bool

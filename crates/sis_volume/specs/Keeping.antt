@@ -1,14 +1,15 @@
 -- What writes to spare places leave as it was. Only private functions cite these words.
 use Rattle.std.specs.Prelude.{◌≡◌, ℕ, ◌+◌, ◌*◌, ◌/◌, ◌<◌, ◌≤◌, nat_le, ◌&&◌, not, Bool, false, List, [], ◌∷◌, ◌++◌, length, take, map, flat_map, slice_index, Option, None, Some, IfSome}
 use Rattle.sis_disk.specs.declared.layout.Layout.{Layout}
-use Rattle.sis_disk.specs.Layout.{first_place}
+use Rattle.sis_disk.specs.Causes.{StaysUp}
+use Rattle.sis_disk.specs.Layout.{first_byte, first_place}
 use Rattle.sis_disk.specs.Record.{DiskRecord, Seen, State, is_loose, state_of}
 use Rattle.sis_disk.specs.Stops.{Elapses, Leaves}
 use Rattle.sis_table.specs.Runs.{IsChain, place_end}
 use Rattle.sis_table.specs.Content.{run_bytes}
 use Rattle.sis_table.specs.Edits.{map_edit}
 use Rattle.sis_table.specs.declared.runs.Run.{Run}
-use Rattle.sis_volume.specs.Kept.{is_held}
+use Rattle.sis_volume.specs.Invariant.{is_held}
 use Rattle.sis_volume.specs.Staging.{IsUnheld}
 use Rattle.sis_volume.specs.View.{TxnView, spare_in}
 
@@ -34,6 +35,7 @@ pub record AgreesOut (l : Layout) (held : List Bool) (from : ℕ) (s : State) (m
 -- the disk's calls wrote to nothing but such places
 pub record WritesSpare (l : Layout) (held : List Bool) (from : ℕ) (old new : Seen) : Type 0 where
   pub elapses : Elapses old new
+  pub up : StaysUp (first_byte l) old new
   pub untold : old.told ≡ None → new.told ≡ None
   pub keeps : (r : DiskRecord) → old.told ≡ Some r → (s : DiskRecord) × (new.told ≡ Some s)
       × KeepsOut l held from (state_of r) (state_of s)

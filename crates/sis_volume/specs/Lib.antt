@@ -1,7 +1,6 @@
 pub mod Applying
-pub mod Formatting
+pub mod Invariant
 pub mod Keeping
-pub mod Kept
 pub mod Opening
 pub mod Places
 pub mod Room

@@ -1,18 +1,16 @@
 -- Why making room may fail.
 use Rattle.std.specs.Prelude.{◌≡◌, ℕ, ◌+◌, ◌<◌, Some}
-use Rattle.sis_disk.specs.Layout.{data_blocks}
-use Rattle.sis_disk.specs.Record.{Rose}
-use Rattle.sis_journal.specs.Committing.{IsFailed}
+use Rattle.sis_disk.specs.Causes.{GoesDown}
+use Rattle.sis_disk.specs.Layout.{data_blocks, first_byte}
 use Rattle.sis_model.specs.declared.reply.Hindrance.{Hindrance}
 use Rattle.sis_model.specs.declared.reply.Hindrance.TheVariants as hindrance
 use Rattle.sis_table.specs.Volume.{used}
 use Rattle.sis_volume.specs.View.{VolumeView}
 
--- a commit failed at this call, and nothing else changed
+-- a commit failed by this call, and nothing else changed
 pub record WentDown (at : ℕ) (old new : VolumeView) : Type 0 where
   pub down : new.down ≡ Some at
-  pub failed : IsFailed at old.seen new.seen
-  pub cause : Rose old.seen.faults new.seen.faults
+  pub failed : GoesDown (first_byte old.table.layout) at old.seen new.seen
   pub same : new ≡ record old { seen = new.seen; down = new.down }
 
 -- the table maps too many places for so many more, and nothing changed

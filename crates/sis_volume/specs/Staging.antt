@@ -1,5 +1,5 @@
 -- What staging writes, and where.
-use Rattle.std.specs.Prelude.{◌≡◌, ℕ, ◌+◌, ◌<◌, ◌≤◌, Bool, false, List, [], ◌∷◌, ◌++◌, map, flat_map, Option, IfSome, ⊤}
+use Rattle.std.specs.Prelude.{◌≡◌, ◌⊎◌, ℕ, ◌+◌, ◌<◌, ◌≤◌, Bool, false, List, [], ◌∷◌, ◌++◌, map, flat_map, Option, IfSome, ⊤}
 use Rattle.std.specs.List.{AllByRecursion}
 use Rattle.sis_disk.specs.declared.layout.Layout.{Layout}
 use Rattle.sis_disk.specs.Record.{Seen, Rose}
@@ -10,8 +10,10 @@ use Rattle.sis_table.specs.Runs.{IsChain, place_end}
 use Rattle.sis_table.specs.Volume.{VolumeTable, is_used}
 use Rattle.sis_table.specs.Edits.{map_edit}
 use Rattle.sis_table.specs.Content.{run_bytes}
+use Rattle.sis_table.specs.declared.edit.Edit.{Edit}
+use Rattle.sis_table.specs.declared.edit.Edit.TheVariants as edit
 use Rattle.sis_table.specs.declared.runs.Run.{Run}
-use Rattle.sis_volume.specs.Kept.{is_held}
+use Rattle.sis_volume.specs.Invariant.{is_held}
 use Rattle.sis_volume.specs.View.{TxnView, VolumeView}
 
 -- no file maps a place of the run, and it lies among the data blocks
@@ -30,17 +32,24 @@ abbrev pub IsUnheld : Layout → List Bool → Run → Type 0
 IsUnheld l held r =
     (place : ℕ) → r.place ≤ place → place < place_end r → is_held l held place ≡ false
 
+-- the edit maps no place of the run
+abbrev pub IsApart : Run → Edit → Type 0
+IsApart r (edit.Make id name) = ⊤
+IsApart r (edit.Size id size) = ⊤
+IsApart r (edit.Map id first count place) = (place + count ≤ r.place) ⊎ (place_end r ≤ place)
+
 -- Blocks of a file, from `first` on, were written to places that neither table maps and no earlier
--- edit of the transaction was given, and are mapped by its new edits.
+-- edit of the transaction maps, and are mapped by its new edits.
 pub record Stages (v : VolumeView) (old new : TxnView) (file first blocks : ℕ) (bytes : List ℕ)
     (live : Option (List ℕ)) (runs : List Run) : Type 0 where
   pub edits : new.edits ≡ old.edits ++ map (map_edit file) runs
   pub chain : IsChain first (first + blocks) runs
   pub places : AreFree v.table old.from new.from runs
   pub uncommitted : AllByRecursion (IsUnheld v.table.layout v.held) runs
+  pub fresh : AllByRecursion (λ r. AllByRecursion (IsApart r) old.edits) runs
   pub written : IfSome live (λ now. flat_map (run_bytes now) runs ≡ bytes)
 
--- why staging may fail: want of memory, or a fault of the disk
+-- why staging may fail on a volume that is up: want of memory, or a fault of the disk
 abbrev pub HindersStaging : Seen → Seen → Hindrance → Type 0
 HindersStaging old new hindrance.Memory = ⊤
 HindersStaging old new hindrance.Disk = Rose old.faults new.faults

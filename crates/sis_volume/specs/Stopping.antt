@@ -1,8 +1,9 @@
 -- What a stop may leave while the calls of a volume go by.
-use Rattle.std.specs.Prelude.{◌≡◌, ◌⊎◌, false, None, Some}
+use Rattle.std.specs.Prelude.{◌≡◌, ◌⊎◌, true, false, is_some, None, Some, IfSome}
 use Rattle.sis_disk.specs.Record.{DiskRecord, Seen, live_bytes}
 use Rattle.sis_disk.specs.Stops.{Leaves, Now, Shows}
-use Rattle.sis_table.specs.Content.{Files, files_of}
+use Rattle.sis_table.specs.Content.{files_in, files_of}
+use Rattle.sis_name.specs.Files.{Files}
 use Rattle.sis_table.specs.Good.{IsGood}
 use Rattle.sis_table.specs.Opens.{OpensAs}
 use Rattle.sis_table.specs.Volume.{VolumeTable, used_places}
@@ -37,3 +38,24 @@ pub record IsCommitted (old new : VolumeView) : Type 0 where
   }
   pub up : new.down ≡ None
   pub opens : IsGood new.table → OpensTable new.table new.seen
+
+-- ---- what the calls of a step leave
+
+-- the table's files go together and are the current ones, and each image of now opens as the
+-- committed ones
+pub record HasFiles (committed current : Files) (v : VolumeView) : Type 0 where
+  pub good : IsGood v.table
+  pub stands : IfSome (files_in v.table v.seen) (λ files. files ≡ current)
+  pub opens : OpensNow committed v.seen
+
+-- At each moment from old to new a stop leaves the committed files or the current ones, and at the
+-- end the same whatever it leaves, unless a commit failed.
+pub record OpensEither (committed current : Files) (old new : VolumeView) : Type 0 where
+  pub images : Leaves (λ m. OpensAs committed m ⊎ OpensAs current m) old.seen new.seen
+  pub last : new.down ≡ None → OpensNow committed new.seen ⊎ OpensNow current new.seen
+
+-- What the calls of a step leave to a stop. Once a commit failed there are none.
+pub record StopsWell (old new : VolumeView) : Type 0 where
+  pub up : old.down ≡ None → (committed current : Files) → HasFiles committed current old
+      → OpensEither committed current old new
+  pub down : is_some old.down ≡ true → new.seen ≡ old.seen

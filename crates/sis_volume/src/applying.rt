@@ -1,10 +1,10 @@
 //! Edits of the table in memory. Nothing is written.
-ghost use Rattle.std.specs.Prelude.{◌≡◌, ◌<◌, length, OnOk, OnErr, IfErr, IsErr, true};
+ghost use Rattle.std.specs.Prelude.{◌≡◌, ◌<◌, length, OnOk, OnErr, IfErr, IsErr, ◌||◌};
 ghost use Rattle.std.specs.List.{All};
 ghost use Rattle.sis_disk.specs.Layout.{first_place, table_cap};
 ghost use Rattle.sis_table.specs.Spelling.{spelling};
 ghost use Rattle.sis_table.specs.Edits.{edited_by, MayEditBy};
-ghost use Rattle.sis_volume.specs.Applying.{HindersApplying, IsInside, marked, marked_by};
+ghost use Rattle.sis_volume.specs.Applying.{HindersApplying, IsInside, is_edit, marked, marked_by};
 
 use crate::bitmap::Bitmap;
 use crate::{Txn, Volume};
@@ -32,6 +32,13 @@ fn mark_edits(bitmap: &mut Bitmap, edits: &[Edit], low: u64)
     }
 }
 
+// Whether a table is changed after edits, given whether it was before.
+fn is_changed_by(was: bool, edits: &[Edit]) -> bool
+    ensures { result ≡ (was || is_edit edits.now) }
+{
+    was || !edits.is_empty()
+}
+
 impl<D: Disk> Volume<D> {
     /// Makes all edits of a transaction, or none. The disk stays as it is.
     pub fn apply(&mut self, txn: &Txn) -> Result<(), Hindrance>
@@ -39,7 +46,7 @@ impl<D: Disk> Volume<D> {
         ensures ok { OnOk result (self.new ≡ record self.old {
           table = edited_by self.old.table txn.now.edits;
           held = marked_by (first_place self.old.table.layout) txn.now.edits self.old.held;
-          is_changed = true;
+          is_changed = self.old.is_changed || is_edit txn.now.edits;
         }) }
         ensures err { OnErr result (self.new ≡ self.old) }
 
@@ -56,8 +63,7 @@ impl<D: Disk> Volume<D> {
         match self.kept.apply_all(edits, cap) {
             Ok(()) => {
                 mark_edits(&mut self.mapped, edits, layout.first_place());
-                mark_edits(&mut self.held, edits, layout.first_place());
-                self.is_changed = true;
+                self.is_changed = is_changed_by(self.is_changed, edits);
                 Ok(())
             }
             Err(EditsFault::TooLong { needed }) => Err(Hindrance::TableFull { needed, cap }),

@@ -66,27 +66,6 @@ impl Bitmap {
         Ok(bitmap)
     }
 
-    /// A bitmap with the same bits.
-    pub(crate) fn copy(&self, alloc: Global) -> Result<Bitmap, AllocError>
-        ensures { IfOk result (λ bitmap. bitmap ≡ self.now) }
-    {
-        Ok(Bitmap {
-            bits: self.bits.to_vec(alloc)?,
-            count: self.count,
-            full: self.full,
-        })
-    }
-
-    /// Takes the bits of a bitmap of the same length.
-    pub(crate) fn copy_from(&mut self, other: &Bitmap)
-        requires { length self.old ≡ length other.now }
-        ensures { self.new ≡ other.now }
-    {
-        self.bits.copy_from_slice(&other.bits);
-        self.count = other.count;
-        self.full = other.full;
-    }
-
     /// How many bits are set.
     pub(crate) fn count(&self) -> u64
         ensures { result ≡ count_by (λ bit. bit) self.now }

@@ -1,8 +1,9 @@
 //! Commits: the journal makes the current table the one that the image holds.
 ghost use Rattle.std.specs.Prelude.{◌≡◌, ℕ, ◌+◌, ◌≤◌, false, true, None, Some, Err, IfSome, IsOk, OnOk, OnErr, IfErr, []};
-ghost use Rattle.sis_disk.specs.Record.{Rose, live_of};
+ghost use Rattle.sis_disk.specs.Causes.{GoesDown, StaysUp};
+ghost use Rattle.sis_disk.specs.Layout.{first_byte};
+ghost use Rattle.sis_disk.specs.Record.{live_of};
 ghost use Rattle.sis_disk.specs.Stops.{Elapses, Now};
-ghost use Rattle.sis_journal.specs.Committing.{IsFailed};
 ghost use Rattle.sis_table.specs.Content.{files_in};
 ghost use Rattle.sis_table.specs.Image.{Holds};
 ghost use Rattle.sis_volume.specs.Stopping.{IsCommitted, MayCommit};
@@ -19,25 +20,27 @@ impl<D: Disk> Volume<D> {
     /// Once a commit failed, nothing is committed any more.
     pub fn commit(&mut self) -> Result<(), Hindrance>
         ensures ok { OnOk result (IsCommitted self.old self.new) }
-        ensures held { OnOk result
+        ensures holds { OnOk result
             (IfSome (live_of self.new.seen) (λ live. Holds live self.new.table)) }
         ensures stable { OnOk result
             (self.old.is_changed ≡ true → Now (λ s. s.loose ≡ []) self.new.seen) }
         ensures unchanged { self.old.down ≡ None → self.old.is_changed ≡ false
             → IsOk result × (self.new ≡ self.old) }
 
-        // An error is the call that failed, and from then on each commit gives it again.
+        // An error is the first call that failed, or was refused, and no call follows it. From then on
+        // each commit gives it again.
+        ensures up { OnOk result
+            (StaysUp (first_byte self.old.table.layout) self.old.seen self.new.seen) }
         ensures err { OnErr result (self.new ≡ record self.old {
           seen = self.new.seen;
           down = self.new.down;
         }) }
         ensures at { IfErr result (λ h.
             (at : ℕ) × (h ≡ Hindrance.Down at) × (self.new.down ≡ Some at)
-            × (self.old.down ≡ None → IsFailed at self.old.seen self.new.seen)) }
+            × (self.old.down ≡ None
+            → GoesDown (first_byte self.old.table.layout) at self.old.seen self.new.seen)) }
         ensures down { IfSome self.old.down (λ at.
             (result ≡ Err (Hindrance.Down at)) × (self.new ≡ self.old)) }
-        ensures cause { self.old.down ≡ None
-            → OnErr result (Rose self.old.seen.faults self.new.seen.faults) }
 
         // At every moment a stop leaves what it left before, or the files of now.
         ensures images { self.old.down ≡ None
@@ -55,7 +58,6 @@ impl<D: Disk> Volume<D> {
         }
         match self.journal.commit(&mut self.disk, &self.kept) {
             Ok(()) => {
-                self.held.copy_from(&self.mapped);
                 self.is_changed = false;
                 Ok(())
             }

@@ -5,8 +5,8 @@ ghost use Rattle.sis_table.specs.Volume.{VolumeTable};
 
 /// The table that an image holds is the one that is read of it, where the image has no log. So what
 /// `format` and `commit` leave is opened again.
-#[tactic(auto, using(crate::proofs::HeldLaws::held_is_read))]
-pub fn held_is_read()
+#[tactic(auto, using(crate::proofs::ImageLaws::image_is_read))]
+pub fn image_is_read()
     ensures { (m : List ℕ) → (v : VolumeTable) → Holds m v → v.layout.log ≡ 0
         → image_at m ≡ Ok v }
 {}

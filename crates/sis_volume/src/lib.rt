@@ -2,7 +2,6 @@
 #![tactic(auto)]
 
 mod applying;
-mod areas;
 mod bitmap;
 mod committing;
 mod fault;
@@ -17,8 +16,8 @@ mod tests;
 mod txn;
 mod volume;
 
-pub use fault::{FormatFault, Refused};
-pub use laws::held_is_read;
-pub use sis_journal::OpenFault;
+pub use fault::Refused;
+pub use laws::image_is_read;
+pub use sis_journal::{FormatFault, OpenFault};
 pub use txn::Txn;
 pub use volume::Volume;

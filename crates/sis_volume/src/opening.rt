@@ -1,11 +1,11 @@
 //! Opens a disk as a volume: the journal reads it, and the table's files are judged.
-ghost use Rattle.std.specs.Prelude.{◌≡◌, ◌≢◌, None, Ok, false, IfOk, IfErr, IfSome, OnOk};
+ghost use Rattle.std.specs.Prelude.{◌≡◌, ◌≢◌, None, Ok, false, IfOk, IfErr, IfSome, IsErrOf, OnOk};
 ghost use Rattle.sis_disk.specs.Record.{live_of};
-ghost use Rattle.sis_journal.specs.Opening.{Caused, SyncThenReads};
+ghost use Rattle.sis_journal.specs.Opening.{Caused, IsSynced, SyncThenReads};
 ghost use Rattle.sis_journal.specs.declared.fault.OpenFault.TheVariants as faults;
 ghost use Rattle.sis_table.specs.Good.{IsGood};
 ghost use Rattle.sis_table.specs.Image.{image_at};
-ghost use Rattle.sis_volume.specs.Kept.{IsKept};
+ghost use Rattle.sis_volume.specs.Invariant.{IsVolume};
 ghost use Rattle.sis_volume.specs.Opening.{FailsAs};
 ghost use Rattle.sis_volume.specs.Stopping.{OpensTable};
 
@@ -36,36 +36,35 @@ struct Opened {
     journal: Journal,
     kept: KeptTable,
     mapped: Bitmap,
-    held: Bitmap,
 }
 
 /// Reads the image, and judges its table.
-fn read_image<D: Disk>(alloc: Global, disk: &mut D) -> Result<Opened, OpenFault>
+fn read_volume<D: Disk>(alloc: Global, disk: &mut D) -> Result<Opened, OpenFault>
     ensures image { IfOk result (λ opened. IfSome (live_of (D.seen disk.old))
         (λ live. image_at live ≡ Ok opened.kept)) }
     ensures good { IfOk result (λ opened. IsGood opened.kept) }
-    ensures kept { IfOk result (λ opened. IsKept opened.kept opened.journal opened.mapped
-        opened.held false None (D.seen disk.new)) }
+    ensures kept { IfOk result (λ opened. IsVolume opened.kept opened.journal opened.mapped
+        false None (D.seen disk.new)) }
     ensures fault { IfErr result (λ fault. IfSome (live_of (D.seen disk.old))
         (λ live. FailsAs fault (image_at live))) }
     ensures cause { IfErr result
         (λ fault. Caused fault (D.seen disk.old).faults (D.seen disk.new).faults) }
-    ensures reads { SyncThenReads 3 (D.seen disk.old) (D.seen disk.new) }
+    ensures reads { SyncThenReads 4 (D.seen disk.old) (D.seen disk.new) }
+    ensures synced { (IsErrOf result OpenFault.Disk → ⊥)
+        → IsSynced (D.seen disk.old) (D.seen disk.new) }
 {
     let (journal, _, kept) = Journal::open::<D, KeptTable>(alloc, disk)?;
     judge(alloc, &kept.table)?;
     let mapped = Bitmap::of_table(alloc, &kept.table)?;
-    let held = mapped.copy(alloc)?;
     Ok(Opened {
         journal,
         kept,
         mapped,
-        held,
     })
 }
 
 impl<D: Disk> Volume<D> {
-    /// Opens a disk as a volume, by a sync and at most three reads.
+    /// Opens a disk as a volume, by a sync and at most four reads.
     ///
     /// After the sync no stop takes back what is read then. A fault of the image is the first one in
     /// its order. Where it has none, the table's files are judged.
@@ -87,18 +86,21 @@ impl<D: Disk> Volume<D> {
         ensures cause { IfErr result
             (λ r. Caused r.fault (D.seen disk).faults (D.seen r.disk).faults) }
 
-        // Either way the disk's first call is a sync, and it is only read then.
-        ensures reads { IfOk result (λ v. SyncThenReads 3 (D.seen disk) v.seen) }
-        ensures refused { IfErr result (λ r. SyncThenReads 3 (D.seen disk) (D.seen r.disk)) }
+        // Either way the disk's first call is a sync, and it is only read then. The sync succeeded,
+        // unless the disk failed.
+        ensures reads { IfOk result (λ v. SyncThenReads 4 (D.seen disk) v.seen) }
+        ensures refused { IfErr result (λ r. SyncThenReads 4 (D.seen disk) (D.seen r.disk)) }
+        ensures synced { IfOk result (λ v. IsSynced (D.seen disk) v.seen) }
+        ensures refused_synced { IfErr result (λ r. (r.fault ≡ faults.Disk → ⊥)
+            → IsSynced (D.seen disk) (D.seen r.disk)) }
     {
         let mut disk = disk;
-        match read_image(alloc, &mut disk) {
+        match read_volume(alloc, &mut disk) {
             Ok(opened) => Ok(Volume {
                 disk,
                 journal: opened.journal,
                 kept: opened.kept,
                 mapped: opened.mapped,
-                held: opened.held,
                 is_changed: false,
                 down: None,
             }),

@@ -1,7 +1,7 @@
 //! How much room a volume has.
-ghost use Rattle.std.specs.Prelude.{◌≡◌, ◌⊎◌, ◌+◌, ◌<◌, ◌≤◌, length, Err, None, IfErr, IfSome, OnOk, OnErr};
-ghost use Rattle.sis_disk.specs.Layout.{data_blocks};
-ghost use Rattle.sis_disk.specs.Record.{Rose};
+ghost use Rattle.std.specs.Prelude.{◌≡◌, ◌⊎◌, ◌+◌, ◌<◌, ◌≤◌, length, Err, None, IfErr, IfSome, IsOk, OnOk, OnErr};
+ghost use Rattle.sis_disk.specs.Causes.{StaysUp};
+ghost use Rattle.sis_disk.specs.Layout.{data_blocks, first_byte};
 ghost use Rattle.sis_disk.specs.Stops.{Elapses};
 ghost use Rattle.sis_table.specs.Content.{files_in};
 ghost use Rattle.sis_table.specs.Volume.{used};
@@ -29,21 +29,16 @@ impl<D: Disk> Volume<D> {
         self.kept.table.encoded_len()
     }
 
-    // How many data blocks neither table maps.
-    fn spare(&self) -> u64
-        ensures { result ≡ spare self.now }
-    {
-        self.total() - self.held.count()
-    }
-
     /// Makes sure that so many blocks can be staged. Takes no memory.
     ///
-    /// Where too few places are free in both tables it commits, which frees those that the committed
-    /// table alone maps.
+    /// It commits only where too few places are free in both tables, which frees those that the
+    /// committed table alone maps. No edit takes a place back yet, so none is freed so.
     #[tactic(auto, using(crate::proofs::Spares::used_within))]
     pub fn room(&mut self, needed: u64) -> Result<(), Hindrance>
         ensures spare { OnOk result (needed ≤ spare self.new) }
-        // Either nothing changed, or the table was committed.
+        // Either nothing changed, or the table was committed; where there is room, nothing did.
+        ensures enough { self.old.down ≡ None → needed ≤ spare self.old
+            → IsOk result × (self.new ≡ self.old) }
         ensures ok { OnOk result ((self.new ≡ self.old) ⊎ IsCommitted self.old self.new) }
         ensures table { self.new.table ≡ self.old.table }
 
@@ -57,7 +52,10 @@ impl<D: Disk> Volume<D> {
         ensures cause { self.old.down ≡ None
             → IfErr result (HindersRoom needed self.old self.new) }
 
-        // At every moment a stop leaves what it left before, or the files of now.
+        // No call fails a commit unless it is told. At every moment a stop leaves what it left before,
+        // or the files of now.
+        ensures up { OnOk result
+            (StaysUp (first_byte self.old.table.layout) self.old.seen self.new.seen) }
         ensures images { self.old.down ≡ None
             → MayCommit self.old.table self.old.seen self.new.seen }
         ensures files { files_in self.new.table self.new.seen
@@ -76,9 +74,6 @@ impl<D: Disk> Volume<D> {
                 used,
                 total,
             });
-        }
-        if self.spare() < needed {
-            self.commit()?;
         }
         Ok(())
     }

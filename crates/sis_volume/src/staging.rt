@@ -1,6 +1,7 @@
 //! Writes new blocks to spare places. What the current and the committed table map stays as it is.
-ghost use Rattle.std.specs.Prelude.{◌≡◌, ◌+◌, ◌*◌, ◌/◌, ◌%◌, ◌^◌, ◌<◌, ◌≤◌, None, ◌++◌, List, length, IfOk, OnOk, OnErr, IfErr};
-ghost use Rattle.sis_disk.specs.Layout.{IsLayout, data_blocks};
+ghost use Rattle.std.specs.Prelude.{◌≡◌, ◌+◌, ◌*◌, ◌/◌, ◌%◌, ◌^◌, ◌<◌, ◌≤◌, None, ◌++◌, List, length, Err, IfOk, IfSome, OnOk, OnErr, IfErr};
+ghost use Rattle.sis_disk.specs.Causes.{StaysUp};
+ghost use Rattle.sis_disk.specs.Layout.{IsLayout, data_blocks, first_byte};
 ghost use Rattle.sis_disk.specs.Record.{live_of};
 ghost use Rattle.sis_disk.specs.Stops.{Elapses};
 ghost use Rattle.sis_table.specs.Runs.{place_end};
@@ -112,11 +113,10 @@ fn stage_runs<D: Disk>(
 
 impl<D: Disk> Volume<D> {
     /// Writes whole blocks of a file, from block `first` on, to places that neither the current nor
-    /// the committed table maps and the transaction was not given yet, and adds the edits that map
-    /// them.
+    /// the committed table nor an edit of the transaction maps, and adds the edits that map them.
     ///
     /// Neighbouring places are written in one call of the disk. What either table maps stays as it
-    /// is, also where a write fails.
+    /// is, also where a write fails. Once a commit failed nothing is written.
     pub fn stage(
         &mut self,
         txn: &mut Txn,
@@ -126,7 +126,6 @@ impl<D: Disk> Volume<D> {
     ) -> Result<(), Hindrance>
         requires whole { length bytes.now % 4096 ≡ 0 }
         requires room { length bytes.now / 4096 ≤ spare_from self.old txn.old.from }
-        requires up { self.old.down ≡ None }
         requires blocks { first + length bytes.now / 4096 ≤ 2 ^ 24 }
         ensures ok { OnOk result ((runs : List ARun)
             × Stages self.old txn.old txn.new file first (length bytes.now / 4096)
@@ -134,13 +133,18 @@ impl<D: Disk> Volume<D> {
         ensures spare { OnOk result (spare_from self.new txn.new.from
             + length bytes.now / 4096 ≡ spare_from self.old txn.old.from) }
 
-        // An error adds no edit. It comes from memory, or from a fault of the disk.
+        // An error adds no edit. It comes from memory, or from a fault of the disk; or from a commit
+        // that failed before.
         ensures err { OnErr result (txn.new ≡ txn.old) }
-        ensures cause { IfErr result (HindersStaging self.old.seen self.new.seen) }
+        ensures down { IfSome self.old.down (λ at.
+            (result ≡ Err (Hindrance.Down at)) × (self.new ≡ self.old)) }
+        ensures cause { self.old.down ≡ None
+            → IfErr result (HindersStaging self.old.seen self.new.seen) }
 
         // Nothing else changes, at no moment does a stop leave other files than before, and each
         // call of the disk writes a block at least.
         ensures same { self.new ≡ record self.old { seen = self.new.seen } }
+        ensures up { StaysUp (first_byte self.old.table.layout) self.old.seen self.new.seen }
         ensures images { OnlyOpens self.old.seen self.new.seen }
         ensures files { files_in self.new.table self.new.seen
             ≡ files_in self.old.table self.old.seen }
@@ -148,13 +152,16 @@ impl<D: Disk> Volume<D> {
         ensures calls { self.new.seen.calls
             ≤ self.old.seen.calls + length bytes.now / 4096 }
     {
+        if let Some(at) = self.down {
+            return Err(Hindrance::Down { at });
+        }
         let count = txn.edits().len();
         let from = txn.from();
         let layout = self.layout();
         let staged = stage_runs(
             &mut self.disk,
             &layout,
-            &mut self.held,
+            &mut self.mapped,
             txn,
             file,
             first,

@@ -21,10 +21,9 @@ pub struct Volume<D: Disk> {
     pub(crate) journal: Journal,
     /// The current table.
     pub(crate) kept: KeptTable,
-    /// For each data block, whether the current table maps it.
+    /// For each data block, whether the current table maps it. No edit takes a place back yet, so the
+    /// committed table maps no others.
     pub(crate) mapped: Bitmap,
-    /// For each data block, whether the current table or the committed one maps it.
-    pub(crate) held: Bitmap,
     /// The table was edited since the last commit.
     pub(crate) is_changed: bool,
     /// The call by which a commit failed.
@@ -33,20 +32,20 @@ pub struct Volume<D: Disk> {
 
 impl<D: Disk> Model for Volume<D> {
     ghost use Rattle.sis_volume.specs.View.{VolumeView};
-    ghost use Rattle.sis_volume.specs.Kept.{IsKept};
+    ghost use Rattle.sis_volume.specs.Invariant.{IsVolume};
 
     ghost Value = { VolumeView };
 
     ghost view = { λ v. record {
       seen = D.seen v.disk;
       table = v.kept;
-      held = v.held;
+      held = v.mapped;
       is_changed = v.is_changed;
       down = v.down;
     } };
 
-    ghost invariant = { λ v. IsKept v.kept v.journal v.mapped v.held
-        v.is_changed v.down (D.seen v.disk) };
+    ghost invariant = { λ v. IsVolume v.kept v.journal v.mapped v.is_changed
+        v.down (D.seen v.disk) };
 }
 
 impl<D: Disk> Volume<D> {

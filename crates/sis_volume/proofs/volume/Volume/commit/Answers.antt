@@ -10,29 +10,26 @@ use Rattle.sis_volume.proofs.volume.Volume.commit.Goals as goal
 pub returns-then-not-self-clause-ok : goal.returns-then-not-self-clause-ok
 returns-then-not-self-clause-ok g c =
     subst (λ (v : VolumeView). IsCommitted v v) c.self.view_is
-    (unchanged_committed _ c.self.inside.journal c.self.inside.mapped c.if-not-self.true c.in_default.is c.self.invariant)
-
-pub copy_from-requires : goal.copy_from-requires
-copy_from-requires g c = c.self.invariant.bits ∙ sym (ap (λ (bits : List Bool). length bits) c.self.invariant.used ∙ length-used_places c.self.inside.kept)
+    (unchanged_committed _ c.self.inside.journal c.if-not-self.true c.in_default.is c.self.invariant)
 
 pub invariant_of-self : goal.invariant_of-self
 invariant_of-self g c =
-    let now = is_committed c.self.inside.kept c.self.inside.journal.layout c.self.inside.journal.second c.self.inside.is_changed c.self.inside.held (g.D.Disk.seen c.self.inside.disk) (g.D.Disk.seen c.commit.new.disk)
+    let now = is_committed c.self.inside.kept c.self.inside.journal.layout c.self.inside.journal.second c.self.inside.is_changed c.self.inside.mapped (g.D.Disk.seen c.self.inside.disk) (g.D.Disk.seen c.commit.new.disk)
     c.self.invariant.journal c.self.invariant.table (none_told c.self.inside.journal.layout c.self.inside.journal.second (g.D.Disk.seen c.self.inside.disk).told (g.D.Disk.seen c.commit.new.disk).told c.commit.ensures.rest)
     (c.self.invariant.committed c.in_default.is) c.in-Ok.ensures.kept in
-    kept-committed c.self.inside.kept c.self.inside.journal c.commit.new.self c.self.inside.mapped c.self.inside.held c.copy_from.new.self c.self.inside.is_changed c.self.inside.down (g.D.Disk.seen c.self.inside.disk) (g.D.Disk.seen c.commit.new.disk)
-    c.commit.ensures.layout c.in-Ok.ensures.ok c.commit.ensures.elapses.size c.copy_from.ensures now c.self.invariant
+    kept-committed c.self.inside.kept c.self.inside.journal c.commit.new.self c.self.inside.mapped c.self.inside.is_changed c.self.inside.down (g.D.Disk.seen c.self.inside.disk) (g.D.Disk.seen c.commit.new.disk)
+    c.commit.ensures.layout c.in-Ok.ensures.ok c.commit.ensures.elapses.size now c.self.invariant
 
 pub returns-in-Ok-clause-ok : goal.returns-in-Ok-clause-ok
 returns-in-Ok-clause-ok g c =
-    let now = is_committed c.self.inside.kept c.self.inside.journal.layout c.self.inside.journal.second c.self.inside.is_changed c.self.inside.held (g.D.Disk.seen c.self.inside.disk) (g.D.Disk.seen c.commit.new.disk)
+    let now = is_committed c.self.inside.kept c.self.inside.journal.layout c.self.inside.journal.second c.self.inside.is_changed c.self.inside.mapped (g.D.Disk.seen c.self.inside.disk) (g.D.Disk.seen c.commit.new.disk)
     c.self.invariant.journal c.self.invariant.table (none_told c.self.inside.journal.layout c.self.inside.journal.second (g.D.Disk.seen c.self.inside.disk).told (g.D.Disk.seen c.commit.new.disk).told c.commit.ensures.rest)
     (c.self.invariant.committed c.in_default.is) c.in-Ok.ensures.kept in
-    let bits : c.copy_from.new.self ≡ used_places c.self.inside.kept = c.copy_from.ensures ∙ c.self.invariant.used in
+    let bits : c.self.inside.mapped ≡ used_places c.self.inside.kept = c.self.invariant.used in
     subst (λ (v : VolumeView). IsCommitted v (record {
       seen = g.D.Disk.seen c.commit.new.disk;
       table = c.self.inside.kept;
-      held = c.copy_from.new.self;
+      held = c.self.inside.mapped;
       is_changed = false;
       down = c.self.inside.down;
     })) c.self.view_is (record {
@@ -41,9 +38,9 @@ returns-in-Ok-clause-ok g c =
       opens = λ good. opens-committed c.self.inside.kept (not c.self.inside.journal.second) (used_places c.self.inside.kept) (g.D.Disk.seen c.commit.new.disk) c.self.invariant.log good now;
     })
 
-pub returns-in-Ok-clause-held : goal.returns-in-Ok-clause-held
-returns-in-Ok-clause-held g c =
-    let now = is_committed c.self.inside.kept c.self.inside.journal.layout c.self.inside.journal.second c.self.inside.is_changed c.self.inside.held (g.D.Disk.seen c.self.inside.disk) (g.D.Disk.seen c.commit.new.disk)
+pub returns-in-Ok-clause-holds : goal.returns-in-Ok-clause-holds
+returns-in-Ok-clause-holds g c =
+    let now = is_committed c.self.inside.kept c.self.inside.journal.layout c.self.inside.journal.second c.self.inside.is_changed c.self.inside.mapped (g.D.Disk.seen c.self.inside.disk) (g.D.Disk.seen c.commit.new.disk)
     c.self.invariant.journal c.self.invariant.table (none_told c.self.inside.journal.layout c.self.inside.journal.second (g.D.Disk.seen c.self.inside.disk).told (g.D.Disk.seen c.commit.new.disk).told c.commit.ensures.rest)
     (c.self.invariant.committed c.in_default.is) c.in-Ok.ensures.kept in
     live-committed c.self.inside.kept (not c.self.inside.journal.second) (used_places c.self.inside.kept) (g.D.Disk.seen c.commit.new.disk) now
@@ -51,7 +48,7 @@ returns-in-Ok-clause-held g c =
 pub returns-in-Ok-clause-images : goal.returns-in-Ok-clause-images
 returns-in-Ok-clause-images g c = λ up.
     subst (λ (v : VolumeView). MayCommit v.table v.seen (g.D.Disk.seen c.commit.new.disk)) c.self.view_is
-    (may_commit c.self.inside.kept c.self.inside.journal.layout c.self.inside.journal.second c.self.inside.is_changed c.self.inside.held (g.D.Disk.seen c.self.inside.disk) (g.D.Disk.seen c.commit.new.disk)
+    (may_commit c.self.inside.kept c.self.inside.journal.layout c.self.inside.journal.second c.self.inside.is_changed c.self.inside.mapped (g.D.Disk.seen c.self.inside.disk) (g.D.Disk.seen c.commit.new.disk)
     c.self.invariant.journal c.self.invariant.table c.self.invariant.log (c.self.invariant.committed c.in_default.is) c.commit.ensures.images)
 
 pub returns-in-Ok-clause-files : goal.returns-in-Ok-clause-files
@@ -62,7 +59,7 @@ returns-in-Ok-clause-files g c =
 pub returns-in-Err-Down-clause-images : goal.returns-in-Err-Down-clause-images
 returns-in-Err-Down-clause-images g c = λ up.
     subst (λ (v : VolumeView). MayCommit v.table v.seen (g.D.Disk.seen c.commit.new.disk)) c.self.view_is
-    (may_commit c.self.inside.kept c.self.inside.journal.layout c.self.inside.journal.second c.self.inside.is_changed c.self.inside.held (g.D.Disk.seen c.self.inside.disk) (g.D.Disk.seen c.commit.new.disk)
+    (may_commit c.self.inside.kept c.self.inside.journal.layout c.self.inside.journal.second c.self.inside.is_changed c.self.inside.mapped (g.D.Disk.seen c.self.inside.disk) (g.D.Disk.seen c.commit.new.disk)
     c.self.invariant.journal c.self.invariant.table c.self.invariant.log (c.self.invariant.committed c.in_default.is) c.commit.ensures.images)
 
 pub returns-in-Err-Down-clause-files : goal.returns-in-Err-Down-clause-files

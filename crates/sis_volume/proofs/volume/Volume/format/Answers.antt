@@ -1,8 +1,10 @@
-use Rattle.std.proofs.Common.{◌∙◌, arith}
-use Rattle.sis_volume.proofs.NewImages.{format_holds}
+use Rattle.sis_disk.specs.Record.{live_of}
+use Rattle.sis_volume.proofs.NewImages.{empty_fits, format_holds}
 use Rattle.sis_volume.proofs.volume.Volume.format.Goals as goal
 
-pub returns-in-Ok-clause-holds : goal.returns-in-Ok-clause-holds
-returns-in-Ok-clause-holds g c =
-    format_holds c.args.layout c.deref.result.now (g.D.Disk.seen c.args.disk.now) (g.D.Disk.seen c.write_stable.new.disk) c.requires
-    (c.deref.ensures.value ∙ c.in_ok-bytes.ensures.bytes) (omega (arith, c.len-have.ensures, c.if-have-need.false)) (g.met.D.Disk.sized c.args.disk.now) c.in-Ok.ensures.written
+pub format-requires-clause-fits : goal.format-requires-clause-fits
+format-requires-clause-fits g c = rw c.empty-table.ensures (empty_fits c.args.layout c.requires)
+
+pub returns-clause-holds : goal.returns-clause-holds
+returns-clause-holds g c =
+    format_holds c.format.result c.args.layout (live_of (g.D.Disk.seen c.format.new.disk)) c.requires (rw c.empty-table.ensures at c.format.ensures.holds)

@@ -5,5 +5,5 @@ use Rattle.sis_table.specs.Image.{Holds, image_at}
 use Rattle.sis_table.specs.Volume.{VolumeTable}
 use Rattle.sis_volume.proofs.Fronts.{text-read}
 
-pub held_is_read : (m : List ℕ) (v : VolumeTable) → Holds m v → v.layout.log ≡ 0 → image_at m ≡ Ok v
-held_is_read m v h log = text-read v m h.table log (record { size = h.size; superblock = h.superblock; fits = h.fits; area = h.area })
+pub image_is_read : (m : List ℕ) (v : VolumeTable) → Holds m v → v.layout.log ≡ 0 → image_at m ≡ Ok v
+image_is_read m v h log = text-read v m h.table log (record { size = h.size; superblock = h.superblock; fits = h.fits; area = h.area })

@@ -2,7 +2,7 @@
 use Rattle.std.specs.Prelude.{◌≡◌, ℕ, ◌-◌, ◌*◌, ◌≤◌, Bool, true, false, List, length, slice_index_or, Option, None}
 use Rattle.sis_disk.specs.Record.{Seen, State}
 use Rattle.sis_disk.specs.Stops.{IsFirm, Now}
-use Rattle.sis_disk.specs.Layout.{first_place, data_blocks, table_cap}
+use Rattle.sis_disk.specs.Layout.{first_place, table_cap}
 use Rattle.sis_disk.specs.declared.layout.Layout.{Layout}
 use Rattle.sis_journal.specs.Texts.{KeepsText}
 use Rattle.sis_journal.specs.View.{JournalView}
@@ -34,17 +34,15 @@ pub record HasCommitted (v : VolumeTable) (second : Bool) (held : List Bool) (is
   pub same : is_changed ≡ false → committed ≡ v
   pub stays : Now (KeepsTable second committed) seen
 
--- The bitmaps say what is mapped and what is held, the table fits its area, the journal is one of
--- its layout, and unless a commit failed there is a committed table.
-pub record IsKept (v : VolumeTable) (j : JournalView) (mapped held : List Bool) (is_changed : Bool)
+-- The bitmap says what the table maps, which is all that is held: no edit takes a place back yet.
+-- The table fits its area, the journal is one of its layout, and unless a commit failed there is a
+-- committed table.
+pub record IsVolume (v : VolumeTable) (j : JournalView) (held : List Bool) (is_changed : Bool)
     (down : Option ℕ) (seen : Seen) : Type 0 where
   pub table : IsTable v
   pub fits : length (spelling v) ≤ table_cap v.layout
   pub log : v.layout.log ≡ 0
   pub journal : j.layout ≡ v.layout
   pub size : seen.size ≡ 4096 * v.layout.total
-  pub used : mapped ≡ used_places v
-  pub bits : length held ≡ data_blocks v.layout
-  pub covered : IsCovered v held
-  pub unchanged : is_changed ≡ false → held ≡ used_places v
+  pub used : held ≡ used_places v
   pub committed : down ≡ None → HasCommitted v j.second held is_changed seen

@@ -11,7 +11,7 @@ use Rattle.sis_table.specs.Volume.{VolumeTable, IsTable, used_places}
 use Rattle.sis_volume.specs.Opening.{FailsAs}
 use Rattle.sis_volume.specs.Tables.{read-layout}
 use Rattle.sis_volume.proofs.Committed.{kept-opened}
-use Rattle.sis_volume.proofs.opening.read_image.Goals as goal
+use Rattle.sis_volume.proofs.opening.read_volume.Goals as goal
 
 -- a fault of reading the table
 fails_too : (fault : OpenFault) (read : Result VolumeTable ImageFault) → FailsReading fault read → FailsAs fault read
@@ -35,6 +35,6 @@ returns-clause-kept g c =
     let read = c.in_ok-journal.ensures.read in
     let layout = c.in_ok-journal.ensures.layout in
     let places = c.in_ok-mapped.ensures.places ∙ ap used_places c.kept.view_is in
-    kept-opened c.in_ok-journal.kept c.in_ok-journal.journal c.in_ok-journal.field-0-1 c.in_ok-mapped.mapped c.in_ok-held.held (g.D.Disk.seen c.open.new.disk)
+    kept-opened c.in_ok-journal.kept c.in_ok-journal.journal c.in_ok-journal.field-0-1 c.in_ok-mapped.mapped (g.D.Disk.seen c.open.new.disk)
     (read-layout c.in_ok-journal.field-0-1 read.0 c.in_ok-journal.kept read.1) layout.0 layout.2 layout.3 read.2 (subst (λ (v : VolumeTable). IsTable v) c.kept.view_is c.of_table.ensures.table) places
-    (c.in_ok-held.ensures ∙ places) c.in_ok-journal.ensures.kept c.in_ok-journal.ensures.stable
+    c.in_ok-journal.ensures.kept c.in_ok-journal.ensures.stable
