@@ -1,5 +1,5 @@
 -- What a command answers, and the world and the table that it leaves.
-use Rattle.std.proofs.Common.{◌≡◌, ◌⊎◌, inr, ℕ, ◌+◌, ◌<◌, ◌≤◌, Bool, true, false, List, length, take, Option, None, Some, is_some, Result, Ok, Err, refl, sym, ap, subst, ◌∙◌, arith}
+use Rattle.std.proofs.Common.{◌≡◌, ◌⊎◌, inl, inr, ℕ, ◌+◌, ◌<◌, ◌≤◌, Bool, true, false, List, length, take, Option, None, Some, is_some, Result, Ok, Err, refl, sym, ap, subst, ◌∙◌, arith}
 use Rattle.std.specs.Prelude.{nat_lt, if◌then◌else◌, filter, unwrap_or, []}
 use Rattle.sis_name.specs.Units.{is_after}
 use Rattle.std.specs.List.{list_any}
@@ -7,11 +7,13 @@ use Rattle.std.specs.Option.{option_map}
 use Rattle.std.specs.FinMap.{insert}
 use Rattle.std.proofs.lemmas.Bool.Decides.{nat_tests}
 use Rattle.std.proofs.lemmas.Bool.{le-ltb}
-use Rattle.sis_disk.specs.Layout.{data_blocks}
+use Rattle.sis_disk.specs.Causes.{GoesDown}
+use Rattle.sis_disk.specs.Layout.{data_blocks, first_byte}
 use Rattle.sis_disk.specs.Record.{Rose}
 use Rattle.sis_disk.specs.Stops.{Elapses}
 use Rattle.sis_name.specs.Units.{is_store_name}
-use Rattle.sis_model.specs.World.{World, Files, bytes_of, with_file, without_client}
+use Rattle.sis_model.specs.World.{World, bytes_of, with_file, without_client}
+use Rattle.sis_name.specs.Files.{Files}
 use Rattle.sis_model.specs.World as world
 use Rattle.sis_model.specs.Answer.{refusal_of, MayReply, world_with, world_as, changed_by, most_names, Kind, IsDone, IsRefused, IsHindered, kind_of}
 use Rattle.sis_model.specs.declared.command.Command.{Command}
@@ -28,7 +30,7 @@ use Rattle.sis_table.specs.Content.{files_in}
 use Rattle.sis_table.proofs.ContentLemmas.{node_named-has, some_mapped}
 use Rattle.sis_volume.specs.View.{VolumeView}
 use Rattle.sis_cli.specs.Making.{HindersMaking, IsDownBy}
-use Rattle.sis_cli.specs.Stages.{is_down, limit_of_new, full_for, limit_or, IsPutCause, AddsFile, Changes, Stage, GoesDown, IsUnhindered, commits, may_commit}
+use Rattle.sis_cli.specs.Stages.{is_down, limit_of_new, full_for, limit_or, IsPutCause, AddsFile, Changes, Stage, AnswersDown, MayReachCommit, commits}
 use Rattle.sis_cli.specs.Session.{ShowsWorld, Decides, Tells, stage_of}
 use Rattle.sis_cli.proofs.Worlds.{shows_more, shows_same}
 
@@ -52,27 +54,35 @@ named_in w v name h =
 
 -- none has, and the reply doesn't say so
 still_up : (before now : Option ℕ) (s t : Stage) (c : Command) (r : Reply) → before ≡ None
-    → now ≡ None → is_down r ≡ false → GoesDown before now s c r t
+    → now ≡ None → is_down r ≡ false → AnswersDown before now s c r t
 still_up before now s t c r one two other =
-    subst (λ (o : Option ℕ). GoesDown o now s c r t) (sym one)
-    (subst (λ (o : Option ℕ). GoesDown None o s c r t) (sym two) other)
+    subst (λ (o : Option ℕ). AnswersDown o now s c r t) (sym one)
+    (subst (λ (o : Option ℕ). AnswersDown None o s c r t) (sym two) other)
 
 -- one has, and nothing is done
 pub was_down : (before : Option ℕ) (at : ℕ) (s : Stage) (c : Command) → before ≡ Some at
-    → GoesDown before before s c (reply.Hindered (hindrance.Down at)) s
+    → AnswersDown before before s c (reply.Hindered (hindrance.Down at)) s
 was_down before at s c is =
-    subst (λ (o : Option ℕ). GoesDown o o s c (reply.Hindered (hindrance.Down at)) s) (sym is)
+    subst (λ (o : Option ℕ). AnswersDown o o s c (reply.Hindered (hindrance.Down at)) s) (sym is)
     (refl, refl, refl, refl)
 
 -- a commit has failed
-pub fails_now : (before now : Option ℕ) (at : ℕ) (s t : Stage) (c : Command) → may_commit c ≡ true
-    → before ≡ None → now ≡ Some at → Rose s.faults t.faults → IsUnhindered s.table c
-    → (s.calls ≤ at) × ((t.calls ≡ at + 1) ⊎ (t.calls ≡ at))
-    → GoesDown before now s c (reply.Hindered (hindrance.Down at)) t
-fails_now before now at s t c may one two rose room failed =
-    subst (λ (o : Option ℕ). GoesDown o now s c (reply.Hindered (hindrance.Down at)) t) (sym one)
-    (subst (λ (o : Option ℕ). GoesDown None o s c (reply.Hindered (hindrance.Down at)) t) (sym two)
-    (may, refl, rose, room, failed.0, failed.1))
+pub fails_now : (before now : Option ℕ) (first at : ℕ) (old new : VolumeView) (c : Command)
+    → MayReachCommit old.table c → before ≡ None → now ≡ Some at
+    → GoesDown first at old.seen new.seen
+    → AnswersDown before now (stage_of old) c (reply.Hindered (hindrance.Down at)) (stage_of new)
+fails_now before now first at old new c may one two failed =
+    subst (λ (o : Option ℕ).
+    AnswersDown o now (stage_of old) c (reply.Hindered (hindrance.Down at)) (stage_of new)) (sym one)
+    (subst (λ (o : Option ℕ).
+    AnswersDown None o (stage_of old) c (reply.Hindered (hindrance.Down at)) (stage_of new))
+    (sym two) (may, refl, failed.rose, failed.low, last_call failed.told))
+  where
+    last_call : {P Q : Type 0}
+        → ((new.seen.calls ≡ at + 1) × P) ⊎ ((new.seen.calls ≡ at) × Q)
+        → (new.seen.calls ≡ at + 1) ⊎ (new.seen.calls ≡ at)
+    last_call (inl made) = inl made.0
+    last_call (inr none) = inr none.0
 
 -- ---- what a put is answered
 
@@ -106,7 +116,7 @@ put_taken v client name bytes up short user there = record {
   down =
       still_up v.down v.down (stage_of v) (stage_of v) (command.Put name bytes) reply.Collision up
       up refl;
-  settled = λ e. absurd cc;
+  committed = λ e. absurd cc;
 }
 
 -- a limit is met, and nothing changes
@@ -124,7 +134,7 @@ put_limited v client name bytes kind up short user free met = record {
   down =
       still_up v.down v.down (stage_of v) (stage_of v) (command.Put name bytes)
       (reply.Hindered (hindrance.Limit kind)) up up refl;
-  settled = λ e. absurd cc;
+  committed = λ e. absurd cc;
 }
   where
     not_opens : Some limit.Opens ≡ limit_of_new v.table → ⊥
@@ -193,7 +203,7 @@ put_done r x old new client name bytes before ok short user free unlimited full 
       down =
           still_up old.down new.down (stage_of old) (stage_of new) (command.Put name bytes)
           reply.Done before up refl;
-      settled = λ e. absurd cc;
+      committed = λ e. absurd cc;
     }
 
 put_cause : {T : Type 0} (r : Result T Hindrance) (old new : VolumeView) (name bytes : List ℕ)
@@ -239,7 +249,7 @@ down_by : {T : Type 0} (r : Result T Hindrance) (old new : VolumeView) (name byt
     → r ≡ Err (hindrance.Full (blocks_of (length bytes)) (used old.table)
     (data_blocks old.table.layout)))
     → HindersMaking old new name bytes by → IsDownBy by new.down
-    → GoesDown old.down new.down (stage_of old) (command.Put name bytes) (reply.Hindered by)
+    → AnswersDown old.down new.down (stage_of old) (command.Put name bytes) (reply.Hindered by)
     (stage_of new)
 down_by r old new name bytes (hindrance.Limit kind) before is unlimited full h up =
     still_up old.down new.down (stage_of old) (stage_of new) (command.Put name bytes)
@@ -257,10 +267,9 @@ down_by r old new name bytes hindrance.Memory before is unlimited full h up =
     still_up old.down new.down (stage_of old) (stage_of new) (command.Put name bytes)
     (reply.Hindered hindrance.Memory) before up refl
 down_by r old new name bytes (hindrance.Down at) before is unlimited full h down =
-    fails_now old.down new.down at (stage_of old) (stage_of new) (command.Put name bytes) refl
-    before down h.1
+    fails_now old.down new.down (first_byte old.table.layout) at old new (command.Put name bytes)
     (ap (λ (o : Option LimitKind). limit_or o (full_for old.table (blocks_of (length bytes))))
-    unlimited ∙ room_for r old.table (blocks_of (length bytes)) full (λ err. absurd cc)) h.0
+    unlimited ∙ room_for r old.table (blocks_of (length bytes)) full (λ err. absurd cc)) before down h
 
 may_hinder : (old new : VolumeView) (w : World) (client : ℕ) (name bytes : List ℕ) (by : Hindrance)
     → HindersMaking old new name bytes by → refusal_of w client (command.Put name bytes) ≡ None
@@ -298,7 +307,7 @@ put_hindered r old new client name bytes by before is short user free unlimited 
       changes = table;
       elapses = elapses;
       down = down_by r old new name bytes by before is unlimited full cause down;
-      settled = λ e. absurd cc;
+      committed = λ e. absurd cc;
     }
 
 -- ---- what other commands are answered
@@ -365,7 +374,7 @@ told v client c r up leaves changes other tells = record {
   changes = changes;
   elapses = no_elapse v;
   down = still_up v.down v.down (stage_of v) (stage_of v) c r up up tells.up;
-  settled = λ e. absurd (both (sym e ∙ other));
+  committed = λ e. absurd (both (sym e ∙ other));
 }
   where
     both : true ≡ false → ⊥

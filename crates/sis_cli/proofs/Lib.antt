@@ -1,14 +1,14 @@
 pub mod Added
 pub mod Decided
+pub mod Early
 pub mod InOrder
 pub mod Lists
 pub mod Makes
-pub mod NumberLemmas
+pub mod RanLines
 pub mod Reopening
 pub mod Runs
 pub mod ServeLemmas
 pub mod Sizes
-pub mod Stopping
 pub mod Surviving
 pub mod WordLemmas
 pub mod Worlds

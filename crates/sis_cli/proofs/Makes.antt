@@ -1,5 +1,5 @@
 -- A file that is made of staged runs.
-use Rattle.std.proofs.Common.{◌≡◌, ℕ, ◌+◌, ◌<◌, Bool, true, false, List, length, flat_map, Option, None, Some, Result, Ok, Err, refl, sym, ap, subst, ◌∙◌, arith}
+use Rattle.std.proofs.Common.{◌≡◌, ℕ, ◌+◌, ◌<◌, ◌||◌, Bool, true, false, List, length, flat_map, Option, None, Some, Result, Ok, Err, refl, sym, ap, subst, ◌∙◌, arith}
 use Rattle.std.specs.Prelude.{IfErr, OnOk, if◌then◌else◌, nat_lt}
 use Rattle.std.proofs.lemmas.Bool.Decides.{nat_tests}
 use Rattle.sis_model.specs.declared.reply.LimitKind.TheVariants as limit
@@ -7,7 +7,7 @@ use Rattle.std.specs.Option.{option_map}
 use Rattle.std.specs.FinMap.{insert}
 use Rattle.sis_disk.specs.Layout.{first_place, table_cap}
 use Rattle.sis_disk.specs.Record.{live_of}
-use Rattle.sis_model.specs.World.{Files}
+use Rattle.sis_name.specs.Files.{Files}
 use Rattle.sis_model.specs.declared.reply.Hindrance.{Hindrance}
 use Rattle.sis_model.specs.declared.reply.Hindrance.TheVariants as hindrance
 use Rattle.sis_table.specs.declared.runs.Run.{Run}
@@ -17,7 +17,7 @@ use Rattle.sis_table.specs.Edits.{edited_by}
 use Rattle.sis_table.specs.Content.{files_of, files_in, run_bytes}
 use Rattle.sis_table.specs.Spelling.{spelling}
 use Rattle.sis_table.proofs.PutLemmas.{files_of-put}
-use Rattle.sis_volume.specs.Applying.{HindersApplying, marked_by}
+use Rattle.sis_volume.specs.Applying.{HindersApplying, is_edit, marked_by}
 use Rattle.sis_volume.specs.View.{VolumeView}
 use Rattle.sis_cli.specs.Making.{HindersMaking, StagesFile}
 use Rattle.sis_cli.specs.Stages.{AddsFile, limit_of_new}
@@ -70,7 +70,7 @@ applied v es =
       table = edited_by v.table es;
       held = marked_by (first_place v.table.layout) es
           v.held;
-      is_changed = true;
+      is_changed = v.is_changed || is_edit es;
     }
 
 module _ {T : Type 0} (r : Result T Hindrance) (old mid new : VolumeView) (name bytes : List ℕ)

@@ -6,14 +6,15 @@ use Rattle.sis_disk.specs.Record.{DiskRecord, Seen, live_bytes, live_of}
 use Rattle.sis_disk.specs.Superblock.{ImageFault}
 use Rattle.sis_journal.specs.declared.fault.OpenFault.{OpenFault}
 use Rattle.sis_journal.specs.declared.fault.OpenFault.TheVariants as fault
-use Rattle.sis_table.specs.Content.{Files, files_in, files_of}
+use Rattle.sis_table.specs.Content.{files_in, files_of}
+use Rattle.sis_name.specs.Files.{Files}
 use Rattle.sis_table.specs.Good.{IsGood, first_defect}
 use Rattle.sis_table.specs.Image.{image_at}
 use Rattle.sis_table.specs.Opens.{OpensAs}
 use Rattle.sis_table.specs.Volume.{VolumeTable}
 use Rattle.sis_table.proofs.GoodLemmas.{good_law}
 use Rattle.sis_volume.specs.Opening.{FailsAs}
-use Rattle.sis_cli.specs.Run.{IsImage, table_or, world_in}
+use Rattle.sis_cli.specs.Run.{IsGoodImage, table_or, world_in}
 use Rattle.sis_cli.specs.Stops.{BeginsWith}
 
 -- what is said of the live bytes of such a disk is said of the image
@@ -58,7 +59,7 @@ image_refused files m seen by opens begins fails =
 
 -- a script begins with the files
 pub image_begins : (files : Files) (m : List ℕ) → OpensAs files m
-    → IsImage (Some m) × ((world_in m).files ≡ files)
+    → IsGoodImage (Some m) × ((world_in m).files ≡ files)
 image_begins files m opens = (
   (opens.table, opens.read, opens.good),
   ap (λ (t : VolumeTable). files_of t m) (ap table_or opens.read) ∙ sym opens.stands,

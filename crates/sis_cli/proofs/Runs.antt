@@ -20,7 +20,7 @@ use Rattle.sis_model.specs.declared.history.Line.{Line}
 use Rattle.sis_table.specs.Volume.{VolumeTable}
 use Rattle.sis_table.specs.Good.{IsGood}
 use Rattle.sis_volume.specs.View.{VolumeView}
-use Rattle.sis_cli.specs.Stages.{is_down, Changes, PutChanges, IsStep, IsRun, Stage, GoesDown, commits}
+use Rattle.sis_cli.specs.Stages.{is_down, Changes, PutChanges, IsStep, IsRun, Stage, AnswersDown, commits}
 use Rattle.sis_cli.specs.Session.{ShowsWorld, IsSince, Decides, HasRun, is_end, ends_with_end, entry_of, MayRun, stage_of}
 use Rattle.sis_cli.proofs.Added.{good_added, any-append}
 
@@ -125,13 +125,13 @@ is_the_end command.End e = refl
 
 -- a reply says so exactly where a commit has failed
 same_down : (before now : Option ℕ) (s t : Stage) (c : Command) (r : Reply)
-    → GoesDown before now s c r t → is_down r ≡ is_some now
+    → AnswersDown before now s c r t → is_down r ≡ is_some now
 same_down (Some at) now s t c r h = ap is_down h.0 ∙ sym (ap is_some h.1)
 same_down None None s t c r h = h
 same_down None (Some at) s t c r h = ap is_down h.1
 
 down_more : (before now : Option ℕ) (s t : Stage) (c : Command) (r : Reply)
-    → GoesDown before now s c r t → (is_some before || (is_down r || false)) ≡ is_some now
+    → AnswersDown before now s c r t → (is_some before || (is_down r || false)) ≡ is_some now
 down_more (Some at) now s t c r h = sym (ap is_some h.1)
 down_more None now s t c r h = by (is_down r) (same_down None now s t c r h)
   where
@@ -141,7 +141,7 @@ down_more None now s t c r h = by (is_down r) (same_down None now s t c r h)
 
 -- the count has risen where a commit has failed
 since_more : (first : ℕ) (old new : VolumeView) (c : Command) (r : Reply)
-    → Elapses old.seen new.seen → GoesDown old.down new.down (stage_of old) c r (stage_of new)
+    → Elapses old.seen new.seen → AnswersDown old.down new.down (stage_of old) c r (stage_of new)
     → IsSince first old → IsSince first new
 since_more first old new c r elapses h since =
     record {
@@ -150,7 +150,7 @@ since_more first old new c r elapses h since =
           since.down;
     }
   where
-    by : (before now : Option ℕ) → GoesDown before now (stage_of old) c r (stage_of new)
+    by : (before now : Option ℕ) → AnswersDown before now (stage_of old) c r (stage_of new)
         → IfSome before (λ at. Rose first old.seen.faults)
         → IfSome now (λ at. Rose first new.seen.faults)
     by (Some at) None h rose = tt
@@ -159,15 +159,20 @@ since_more first old new c r elapses h since =
     by None (Some now) h rose = let early = since.early in let risen = h.2 in
         omega (arith, early, risen)
 
+some_entry : (es : List Entry) (e : Entry) → es ++ e ∷ [] ≡ [] → ⊥
+some_entry [] e none = absurd cc
+some_entry (x ∷ es) e none = absurd cc
+
 -- nothing ran
 pub ran_none : (v : VolumeView) → HasRun v v []
 ran_none v = record {
+  none = λ e. refl;
   world = λ w h. (tt, h);
   kept = refl;
   since = λ before h. h;
   elapses = record { size = refl; calls = omega arith; faults = omega arith };
   down = λ up. sym (ap is_some up);
-  settled = λ clean end up. clean;
+  committed = λ clean end up. clean;
 }
 
 -- what ran, and one command more
@@ -177,6 +182,7 @@ pub ran_more : (old mid new : VolumeView) (es after : List Entry) (l : Line) (r 
 ran_more old mid new es after l r at ran d is at_is =
     let e = entry_of l r at in
     subst (λ (xs : List Entry). HasRun old new xs) (sym is) (record {
+      none = λ none. absurd (some_entry es e none);
       world = λ w h.
           let before = ran.world w h in
           let step = d.world (world_after w es) before.1 in (
@@ -199,8 +205,8 @@ ran_more old mid new es after l r at ran d is at_is =
           any-append (λ (x : Entry). is_down x.reply) es (e ∷ [])
           ∙ ap (λ (b : Bool). b || (is_down r || false)) (ran.down up)
           ∙ down_more mid.down new.down (stage_of mid) (stage_of new) l.command r d.down;
-      settled =
-          λ clean end up. d.settled (ap commits
+      committed =
+          λ clean end up. d.committed (ap commits
           (is_the_end l.command (sym
           (ap ends_with_end (map_push es e) ∙ last_end (map line_of es) (line_of e)) ∙ end))) up;
     })

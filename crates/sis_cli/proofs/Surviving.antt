@@ -1,18 +1,16 @@
 -- Stops while the lines of a run are carried out.
-use Rattle.std.proofs.Common.{◌≡◌, ⊎_elim, ℕ, zero, suc, ◌+◌, ◌-◌, ◌≤◌, Bool, true, false, List, [], ◌∷◌, ◌++◌, length, take, Option, None, Some, refl, sym, ap, subst, ◌∙◌, arith, length-append}
-use Rattle.std.specs.Prelude.{IfSome, is_some, slice_get}
+use Rattle.std.proofs.Common.{◌≡◌, ⊎_elim, ℕ, ◌+◌, ◌≤◌, Bool, true, false, List, [], ◌∷◌, ◌++◌, length, Option, None, Some, refl, sym, ap, subst, ◌∙◌, arith}
+use Rattle.std.specs.Prelude.{IfSome, is_some}
 use Rattle.std.specs.List.{AllByRecursion}
-use Rattle.std.proofs.Math.Seq.{take-append-add}
-use Rattle.std.proofs.lemmas.Option.{slice_get_within}
-use Rattle.sis_disk.specs.Record.{Call, DiskRecord, Reads, Seen, State, Syncs, Writes, IsImage, after, after_all, live_bytes, state_at, state_of}
-use Rattle.sis_disk.specs.Stops.{Shows, with_calls}
-use Rattle.sis_disk.proofs.Firm.{firm_image}
-use Rattle.sis_disk.proofs.Images.{after_all_append}
+use Rattle.std.specs.Option.{option_map}
+use Rattle.sis_disk.specs.Record.{DiskRecord, Seen, IsCounted, live_bytes, live_of}
+use Rattle.sis_disk.specs.Stops.{GoesOnBy}
 use Rattle.sis_history.specs.Durable.{is_durable}
 use Rattle.sis_history.specs.Stops.{AreInOrder, Survives, SurvivesStops}
 use Rattle.sis_history.proofs.LoopLemmas.{committed_now, committed_push, leaves_safe_either, now_opens_with}
 use Rattle.sis_history.proofs.StopLemmas.{survives_calls, survives_durable, survives_entry}
-use Rattle.sis_journal.specs.Opening.{AreSyncThenReads, GoesOnBy, IsRead, SyncThenReads}
+use Rattle.sis_journal.specs.Opening.{AreSyncedReads, IsSynced}
+use Rattle.sis_journal.proofs.Behind.{image_behind}
 use Rattle.sis_model.specs.Answer.{world_with}
 use Rattle.sis_model.specs.History.{world_after}
 use Rattle.sis_model.specs.World.{World}
@@ -23,24 +21,20 @@ use Rattle.sis_model.specs.declared.history.Line.{Line}
 use Rattle.sis_model.specs.declared.reply.Reply.{Reply}
 use Rattle.sis_table.specs.Good.{IsGood}
 use Rattle.sis_table.specs.Opens.{OpensAs}
-use Rattle.sis_volume.specs.Stopping.{OpensNow}
+use Rattle.sis_volume.specs.Stopping.{OpensNow, StopsWell}
 use Rattle.sis_volume.specs.View.{VolumeView}
+use Rattle.sis_volume.proofs.Stopping.{opens_table}
 use Rattle.sis_cli.specs.Session.{Decides, HasRun, ShowsWorld, entry_of, stage_of}
-use Rattle.sis_cli.specs.Stages.{GoesDown, IsRun, Stage}
-use Rattle.sis_cli.specs.Stops.{IsCounted, IsDurable, IsSurvived, StopsWell, SurvivesRun, SyncsAt}
+use Rattle.sis_cli.specs.Stages.{AnswersDown, IsRun, Stage}
+use Rattle.sis_cli.specs.Stops.{IsDurable, IsSurvived, SurvivesRun}
 use Rattle.sis_cli.proofs.Runs.{change_good, run_good}
-use Rattle.sis_cli.proofs.Stopping.{opens_table}
 
 -- ---- a step
 
--- what the calls of a step keep, before its entry is added
-abbrev Carried : ℕ → World → List Entry → VolumeView → Type 0
-Carried first w es v = IsSurvived first w es v
-
 stays_down : (before now : Option ℕ) (at : ℕ) (s t : Stage) (c : Command) (r : Reply)
-    → before ≡ Some at → GoesDown before now s c r t → now ≡ None → ⊥
+    → before ≡ Some at → AnswersDown before now s c r t → now ≡ None → ⊥
 stays_down before now at s t c r is goes up =
-    let down = (subst (λ (o : Option ℕ). GoesDown o now s c r t) is goes).1 in
+    let down = (subst (λ (o : Option ℕ). AnswersDown o now s c r t) is goes).1 in
     absurd (let e = sym up ∙ down in cc)
 
 calls_went : (first : ℕ) (w : World) (es : List Entry) (mid new : VolumeView) (client : ℕ)
@@ -165,160 +159,45 @@ run_in_order s last (e ∷ es) run =
     same ds n m is all =
         subst (λ (x : ℕ). AllByRecursion (λ (d : Entry). x ≤ d.decided) ds) (sym is) all
 
--- ---- opening
+-- ---- before the first entry
 
--- reads leave the state as it is
-reads_leave : (s : State) (cs : List Call) → AllByRecursion IsRead cs → after_all s cs ≡ s
-reads_leave s [] all = refl
-reads_leave s (Reads at len ok ∷ cs) all = reads_leave s cs all.1
-reads_leave s (Writes at bytes ok ∷ cs) all = absurd all.0
-reads_leave s (Syncs ok ∷ cs) all = absurd all.0
-
-reads_front : (n : ℕ) (cs : List Call) → AllByRecursion IsRead cs
-    → AllByRecursion IsRead (take n cs)
-reads_front zero cs all = tt
-reads_front (suc n) [] all = tt
-reads_front (suc n) (c ∷ cs) all = (all.0, reads_front n cs all.1)
-
--- behind its first call opening leaves the state as it is
-state_read : (r : DiskRecord) (c : Call) (reads : List Call) (j : ℕ) → AllByRecursion IsRead reads
-    → state_at (with_calls (c ∷ reads) r) (length r.calls + suc j)
-    ≡ state_of (with_calls (c ∷ reads) r)
-state_read r c reads j all =
-    ap (λ (cs : List Call). after_all start cs) (take-append-add r.calls (c ∷ reads) (suc j))
-    ∙ after_all_append start r.calls (c ∷ take j reads)
-    ∙ reads_leave first (take j reads) (reads_front j reads all)
-    ∙ sym (reads_leave first reads all)
-    ∙ sym (after_all_append start r.calls (c ∷ reads))
-  where
-    start : State
-    start = record { live = r.opening; loose = [] }
-
-    first : State
-    first = after (after_all start r.calls) c
-
-behind_call : (r : DiskRecord) (c : Call) (reads : List Call) (k : ℕ) → length r.calls + 1 ≤ k
-    → AllByRecursion IsRead reads
-    → state_at (with_calls (c ∷ reads) r) k ≡ state_of (with_calls (c ∷ reads) r)
-behind_call r c reads k from all =
-    let j = k - length r.calls - 1 in
-    let same : length r.calls + suc j ≡ k = omega arith in
-    subst (λ (n : ℕ). state_at (with_calls (c ∷ reads) r) n ≡ state_of (with_calls (c ∷ reads) r))
-    same (state_read r c reads j all)
-
--- behind its first call it is the state of now
-state_behind : (r : DiskRecord) (more : List Call) (k : ℕ) → length r.calls + 1 ≤ k
-    → k ≤ length (r.calls ++ more) → AreSyncThenReads more
-    → state_at (with_calls more r) k ≡ state_of (with_calls more r)
-state_behind r [] k from upto are =
-    let none : List Call = [] in
-    absurd (omega (arith, from, upto, length-append r.calls none))
-state_behind r (Syncs true ∷ reads) k from upto are = behind_call r (Syncs true) reads k from are
-state_behind r (Syncs false ∷ reads) k from upto are =
-    behind_call r (Syncs false) reads k from
-    (subst (λ (cs : List Call). AllByRecursion IsRead cs) (sym are) tt)
-state_behind r (Reads at len ok ∷ more) k from upto are = absurd are
-state_behind r (Writes at bytes ok ∷ more) k from upto are = absurd are
-
--- what each image has now, it has had since opening's first call
-stops_behind : (r : DiskRecord) (more : List Call) (first : ℕ) (w : World)
-    → length r.calls + 1 ≤ first → AreSyncThenReads more
-    → Shows (OpensAs w.files) (state_of (with_calls more r))
-    → SurvivesStops first w [] (with_calls more r)
-stops_behind r more first w le are opens k from upto m image =
-    let same = state_behind r more k (omega (arith, le, from)) upto are in (
-      0,
-      record { decided = omega arith; none_lost = tt },
-      opens m (subst (λ (s : State). IsImage s m) same image),
-    )
-
--- an opened disk whose images open as the files of a world
-pub opening_survives : (most : ℕ) (old new : Seen) (w : World) → IsCounted old
-    → SyncThenReads most old new → OpensNow w.files new → Survives (old.calls + 1) w [] new
-opening_survives most old new w counted reads opens =
-    record { told = λ r is. (by old.told new.told counted reads.told r is (opens r is), tt) }
-  where
-    by : (was now : Option DiskRecord) → IfSome was (λ r. length r.calls ≡ old.calls)
-        → GoesOnBy AreSyncThenReads was now → (r : DiskRecord) → now ≡ Some r
-        → Shows (OpensAs w.files) (state_of r) → SurvivesStops (old.calls + 1) w [] r
-    by None now count goes r is shows = absurd cc
-    by (Some q) now count goes r is shows =
-        let same : with_calls goes.0 q ≡ r = cc in
-        subst (λ (x : DiskRecord). SurvivesStops (old.calls + 1) w [] x) same
-        (stops_behind q goes.0 (old.calls + 1) w (omega (arith, count)) goes.2
-        (subst (λ (x : DiskRecord). Shows (OpensAs w.files) (state_of x)) (sym same) shows))
-
--- what a run keeps at its start
-pub opened_survives : (most : ℕ) (old : Seen) (v : VolumeView) (w : World) → IsCounted old
-    → SyncThenReads most old v.seen → OpensNow w.files v.seen
-    → IsSurvived (old.calls + 1) w [] v
-opened_survives most old v w counted reads opens = record {
-  survives = opening_survives most old v.seen w counted reads opens;
-  committed = λ up. (w.files, committed_now w [], opens);
-}
-
--- ---- a disk that was not opened
-
-slice_get-seam : {X : Type 0} (xs : List X) (y : X) (ys : List X)
-    → slice_get (xs ++ y ∷ ys) (length xs) ≡ Some y
-slice_get-seam [] y ys = refl
-slice_get-seam (x ∷ xs) y ys = slice_get-seam xs y ys
-
--- a call that succeeded is no other
-synced_first : (r : DiskRecord) (more : List Call) → AreSyncThenReads more
-    → SyncsAt (length r.calls) (with_calls more r)
-    → (reads : List Call) × (more ≡ Syncs true ∷ reads) × AllByRecursion IsRead reads
-synced_first r [] are syncs =
-    let lt = slice_get_within (r.calls ++ []) (length r.calls) (Syncs true) syncs in
-    let none : List Call = [] in
-    absurd (omega (arith, lt, length-append r.calls none))
-synced_first r (Syncs true ∷ reads) are syncs = (reads, refl, are)
-synced_first r (Syncs false ∷ reads) are syncs =
-    absurd (let e = sym (slice_get-seam r.calls (Syncs false) reads) ∙ syncs in cc)
-synced_first r (Reads at len ok ∷ more) are syncs = absurd are
-synced_first r (Writes at bytes ok ∷ more) are syncs = absurd are
-
--- a sync and reads leave one image, the live bytes
-one_image : (r : DiskRecord) (reads : List Call) (m : List ℕ) → AllByRecursion IsRead reads
-    → IsImage (state_of (with_calls (Syncs true ∷ reads) r)) m → m ≡ live_bytes r
-one_image r reads m all image =
-    firm_image (after (state_of r) (Syncs true)) m refl
-    (subst (λ (s : State). IsImage s m) same image)
-  where
-    start : State
-    start = record { live = r.opening; loose = [] }
-
-    same : state_of (with_calls (Syncs true ∷ reads) r) ≡ after (state_of r) (Syncs true)
-    same =
-        after_all_append start r.calls (Syncs true ∷ reads)
-        ∙ reads_leave (after (after_all start r.calls) (Syncs true)) reads all
+-- the disk wasn't called
+pub survives_same : (old new : Seen) (w : World) (now : DiskRecord) → IsCounted old → new ≡ old
+    → new.told ≡ Some now → SurvivesStops (old.calls + 1) w [] now
+survives_same old new w now counted same is k from upto =
+    let count : length now.calls ≡ old.calls =
+    subst (λ (o : Option DiskRecord). IfSome o (λ r. length r.calls ≡ old.calls))
+    (ap (λ (s : Seen). s.told) (sym same) ∙ is) counted in
+    absurd (omega (arith, from, upto, count))
 
 -- a disk that was synced and read has kept its files
-pub unopened_survives : (most : ℕ) (old new : Seen) (w : World) (before now : DiskRecord)
-    → IsCounted old → SyncThenReads most old new → old.told ≡ Some before → new.told ≡ Some now
-    → SyncsAt old.calls now → OpensAs w.files (live_bytes before)
-    → SurvivesStops (old.calls + 1) w [] now
-unopened_survives most old new w before now counted reads was is syncs opens =
-    by (subst (λ (o : Option DiskRecord). GoesOnBy AreSyncThenReads o new.told) was reads.told)
-  where
-    count : length before.calls ≡ old.calls
-    count =
-        subst (λ (o : Option DiskRecord). IfSome o (λ r. length r.calls ≡ old.calls)) was counted
+pub survives_synced : (old new : Seen) (w : World) (before now : DiskRecord) → IsCounted old
+    → IsSynced old new → old.told ≡ Some before → new.told ≡ Some now
+    → OpensAs w.files (live_bytes before) → SurvivesStops (old.calls + 1) w [] now
+survives_synced old new w before now counted synced was is opens k from upto m image = (
+  0,
+  record { decided = omega arith; none_lost = tt },
+  subst (λ (x : List ℕ). OpensAs w.files x)
+      (sym (image_behind old new before now k m counted synced was is from image)) opens,
+)
 
-    by : GoesOnBy AreSyncThenReads (Some before) new.told → SurvivesStops (old.calls + 1) w [] now
-    by goes =
-        let same : with_calls goes.0 before ≡ now = some_same (sym goes.1 ∙ is) in
-        let at : SyncsAt (length before.calls) (with_calls goes.0 before) =
-        subst (λ (x : DiskRecord). SyncsAt (length before.calls) x) (sym same)
-        (subst (λ (n : ℕ). SyncsAt n now) (sym count) syncs) in
-        let first = synced_first before goes.0 goes.2 at in
-        subst (λ (x : DiskRecord). SurvivesStops (old.calls + 1) w [] x) same
-        (stops_behind before goes.0 (old.calls + 1) w (omega (arith, count)) goes.2
-        (λ m image.
-        let image_first =
-        subst (λ (cs : List Call). IsImage (state_of (with_calls cs before)) m) first.1 image in
-        subst (λ (x : List ℕ). OpensAs w.files x)
-        (sym (one_image before first.0 m first.2 image_first)) opens))
-      where
-        some_same : {x y : DiskRecord} → Some x ≡ Some y → x ≡ y
-        some_same e = cc
+-- what a run keeps at its start
+pub opened_survives : (old : Seen) (v : VolumeView) (w : World) → IsCounted old
+    → IsSynced old v.seen → IfSome (live_of old) (λ m. OpensAs w.files m)
+    → OpensNow w.files v.seen → IsSurvived (old.calls + 1) w [] v
+opened_survives old v w counted synced began opens = record {
+  survives = record { told = λ r is. (by old.told refl r is, tt) };
+  committed = λ up. (w.files, committed_now w [], opens);
+}
+  where
+    untold : old.told ≡ None → v.seen.told ≡ None
+    untold was = subst (λ (o : Option DiskRecord). GoesOnBy AreSyncedReads o v.seen.told) was
+        synced.told
+
+    by : (o : Option DiskRecord) → old.told ≡ o → (r : DiskRecord) → v.seen.told ≡ Some r
+        → SurvivesStops (old.calls + 1) w [] r
+    by None was r is = absurd (let e = sym (untold was) ∙ is in cc)
+    by (Some q) was r is =
+        survives_synced old v.seen w q r counted synced was is
+        (subst (λ (o : Option DiskRecord). IfSome (option_map live_bytes o)
+        (λ m. OpensAs w.files m)) was began)

@@ -1,8 +1,8 @@
 -- How a file is made, and why it is not.
 use Rattle.std.specs.Prelude.{◌≡◌, ℕ, ◌+◌, ◌<◌, ◌≤◌, List, ◌∷◌, length, map, flat_map, take, Option, None, Some, IfSome, ⊤}
-use Rattle.sis_disk.specs.Layout.{data_blocks}
+use Rattle.sis_disk.specs.Causes.{GoesDown}
+use Rattle.sis_disk.specs.Layout.{data_blocks, first_byte}
 use Rattle.sis_disk.specs.Record.{Rose}
-use Rattle.sis_journal.specs.Committing.{IsFailed}
 use Rattle.sis_model.specs.declared.reply.Hindrance.{Hindrance}
 use Rattle.sis_model.specs.declared.reply.Hindrance.TheVariants as hindrance
 use Rattle.sis_table.specs.Volume.{VolumeTable, IsTable, blocks_of, used, greatest_size}
@@ -27,13 +27,17 @@ HindersMaking old new name bytes (hindrance.TableFull needed cap) =
     IsTooLong old.table name bytes needed cap
 HindersMaking old new name bytes hindrance.Disk = Rose old.seen.faults new.seen.faults
 HindersMaking old new name bytes (hindrance.Down at) =
-    IsFailed at old.seen new.seen × Rose old.seen.faults new.seen.faults
+    GoesDown (first_byte old.table.layout) at old.seen new.seen
 HindersMaking old new name bytes hindrance.Memory = ⊤
 
 -- no commit has failed, unless the hindrance says so
 abbrev pub IsDownBy : Hindrance → Option ℕ → Type 0
 IsDownBy (hindrance.Down at) down = down ≡ Some at
-IsDownBy _ down = down ≡ None
+IsDownBy (hindrance.Limit kind) down = down ≡ None
+IsDownBy (hindrance.Full needed used_now total) down = down ≡ None
+IsDownBy (hindrance.TableFull needed cap) down = down ≡ None
+IsDownBy hindrance.Disk down = down ≡ None
+IsDownBy hindrance.Memory down = down ≡ None
 
 -- the edits that make a file whose blocks lie in these runs
 abbrev pub put_of : ℕ → List ℕ → ℕ → List Run → List Edit

@@ -19,10 +19,10 @@ use Rattle.sis_table.specs.Image.{Holds, image_at}
 use Rattle.sis_disk.specs.Superblock.{ImageFault}
 use Rattle.sis_volume.specs.View.{VolumeView}
 use Rattle.sis_script.specs.Taken.{TakesAtMost}
-use Rattle.sis_script.specs.declared.limits.TheConstants.{MOST_BYTES}
+use Rattle.sis_script.specs.declared.limits.TheConstants.{MOST_SCRIPT_BYTES}
 use Rattle.sis_history.specs.Stops.{AreInOrder, Survives, SurvivesStops}
-use Rattle.sis_journal.specs.Opening.{SyncThenReads}
-use Rattle.sis_volume.specs.Formatting.{EndsInSync}
+use Rattle.sis_journal.specs.Opening.{IsSynced, SyncThenReads}
+use Rattle.sis_journal.specs.Formatting.{EndsInSync}
 use Rattle.sis_cli.specs.Words.{Words, Fault}
 use Rattle.sis_cli.specs.Exit.{risen, length_at}
 use Rattle.sis_cli.specs.Session.{ShowsWorld, stage_of}
@@ -56,8 +56,8 @@ abbrev pub IsScript : Option (List ℕ) → Type 0
 IsScript left = IfSome left (λ bytes. (parts : Parts) × (script_of bytes ≡ Ok parts))
 
 -- where the disk tells its bytes, they are an image, and its files go together
-abbrev pub IsImage : Option (List ℕ) → Type 0
-IsImage live = IfSome live (λ m. (v : VolumeTable) × (image_at m ≡ Ok v) × IsGood v)
+abbrev pub IsGoodImage : Option (List ℕ) → Type 0
+IsGoodImage live = IfSome live (λ m. (v : VolumeTable) × (image_at m ≡ Ok v) × IsGood v)
 
 -- The counts of faults of disk, source and sink, before a run and after it.
 pub record Counts : Type 0 where
@@ -72,7 +72,7 @@ pub record Counts : Type 0 where
 
 -- why a script ends so: it is judged first, then the image, then the run, then the output
 abbrev pub ExecCause : Option (List ℕ) → Option (List ℕ) → Counts → Exit → Type 0
-ExecCause left live n exit.Done = IsScript left × IsImage live
+ExecCause left live n exit.Done = IsScript left × IsGoodImage live
 ExecCause left live n (exit.Usage at kind) = ⊥
 ExecCause left live n (exit.Script line kind) =
     IfSome left (λ bytes. script_of bytes ≡ Err (script.Line line kind))
@@ -85,7 +85,7 @@ ExecCause left live n (exit.Bad kind file index) =
     × (first_defect v ≡ Some (kind, file, index)))
 ExecCause left live n (exit.Disk count) =
     IsScript left × Rose n.disk n.disk_now × (count ≡ risen n.disk n.disk_now)
-ExecCause left live n exit.Sink = IsScript left × IsImage live × Rose n.sink n.sink_now
+ExecCause left live n exit.Sink = IsScript left × IsGoodImage live × Rose n.sink n.sink_now
 ExecCause left live n exit.Source = Rose n.source n.source_now
 ExecCause left live n exit.Memory = ⊤
 
@@ -97,13 +97,17 @@ FormatCause l size faults faults_now (exit.Image at kind) =
 FormatCause l size faults faults_now (exit.Disk count) =
     (size ≡ 4096 * l.total) × Rose faults faults_now × (count ≡ risen faults faults_now)
 FormatCause l size faults faults_now exit.Memory = ⊤
-FormatCause l size faults faults_now _ = ⊥
+FormatCause l size faults faults_now (exit.Usage at kind) = ⊥
+FormatCause l size faults faults_now (exit.Script line kind) = ⊥
+FormatCause l size faults faults_now (exit.ScriptLimit kind count) = ⊥
+FormatCause l size faults faults_now (exit.Bad kind file index) = ⊥
+FormatCause l size faults faults_now exit.Sink = ⊥
+FormatCause l size faults faults_now exit.Source = ⊥
 
 -- Why a run ends so. The words are judged first.
 abbrev pub ExitCause : Result Words Fault → Option (List ℕ) → Option (List ℕ) → ℕ → Counts → Exit
     → Type 0
-ExitCause (Err (at, kind)) left live size n status =
-    (status ≡ exit.Usage at kind) ⊎ (status ≡ exit.Memory)
+ExitCause (Err (at, kind)) left live size n status = status ≡ exit.Usage at kind
 ExitCause (Ok words) left live size n status =
     IsExec words.verb (ExecCause left live n status)
     (IfSome words.layout (λ l. FormatCause l size n.disk n.disk_now status))
@@ -114,7 +118,7 @@ ExitCause (Ok words) left live size n status =
 -- failed.
 pub record MayExec (left live : Option (List ℕ)) (n : Counts) : Type 0 where
   pub script : (bytes : List ℕ) × (left ≡ Some bytes) × IsScript (Some bytes)
-  pub image : (m : List ℕ) × (live ≡ Some m) × IsImage (Some m)
+  pub image : (m : List ℕ) × (live ≡ Some m) × IsGoodImage (Some m)
   pub disk : ¬ Rose n.disk n.disk_now
   pub source : ¬ Rose n.source n.source_now
   pub sink : ¬ Rose n.sink n.sink_now
@@ -133,53 +137,102 @@ IsAccepted (Ok words) left live size n =
 
 -- ---- what a script does
 
--- the entries are those of a script, which the source told where it tells its bytes: its lines in
--- order, each client's end right after its last line, and so each client's calls, each once
+-- The entries are those of a script: its lines in order, each client's end right after its last
+-- line, and so each client's calls, each once. The script is what some bytes say, and these are the
+-- source's, where it tells them.
 pub record RunsScript (left : Option (List ℕ)) (entries : List Entry) : Type 0 where
+  pub bytes : List ℕ
+  pub told : IfSome left (λ told. bytes ≡ told)
   pub parts : Parts
-  pub is_script : IfSome left (λ bytes. script_of bytes ≡ Ok parts)
+  pub is_script : script_of bytes ≡ Ok parts
   pub clients : All (λ l. IsClient l.client) parts.lines
   pub built : All (λ l. IsBuilt l.command) parts.lines
   pub order : map line_of entries ≡ exec_order parts.lines
   pub calls : (client : ℕ) → calls_of entries client ≡ expected_calls parts.lines client
 
 -- Which entries a run has that ended so: the script's calls, or none where it ended before the
--- first of them. `unopened` says that the disk was synced and read, as where opening failed.
-abbrev pub HasCalls : Exit → Type 0 → Option (List ℕ) → List Entry → Type 0
-HasCalls exit.Done unopened left entries = RunsScript left entries
-HasCalls exit.Sink unopened left entries = RunsScript left entries
-HasCalls (exit.Disk count) unopened left entries =
-    RunsScript left entries ⊎ ((entries ≡ []) × unopened)
-HasCalls exit.Memory unopened left entries = RunsScript left entries ⊎ ((entries ≡ []) × unopened)
-HasCalls (exit.Image at kind) unopened left entries = (entries ≡ []) × unopened
-HasCalls (exit.Bad kind file index) unopened left entries = (entries ≡ []) × unopened
-HasCalls _ unopened left entries = entries ≡ []
+-- first of them.
+abbrev pub HasCalls : Exit → Option (List ℕ) → List Entry → Type 0
+HasCalls exit.Done left entries = RunsScript left entries
+HasCalls (exit.Usage at kind) left entries = entries ≡ []
+HasCalls (exit.Script line kind) left entries = entries ≡ []
+HasCalls (exit.ScriptLimit kind count) left entries = entries ≡ []
+HasCalls (exit.Image at kind) left entries = entries ≡ []
+HasCalls (exit.Bad kind file index) left entries = entries ≡ []
+HasCalls (exit.Disk count) left entries = RunsScript left entries ⊎ (entries ≡ [])
+HasCalls exit.Sink left entries = RunsScript left entries
+HasCalls exit.Source left entries = entries ≡ []
+HasCalls exit.Memory left entries = RunsScript left entries ⊎ (entries ≡ [])
 
--- Where words or script were refused, the disk is as it was.
-abbrev pub Spares : Exit → Seen → Seen → Type 0
-Spares (exit.Usage at kind) old new = new ≡ old
-Spares (exit.Script line kind) old new = new ≡ old
-Spares (exit.ScriptLimit kind count) old new = new ≡ old
-Spares exit.Source old new = new ≡ old
-Spares _ old new = ⊤
+-- the disk was opened and not called any more: by a sync that succeeded, and at most four reads
+pub record IsOnlyOpened (old new : Seen) : Type 0 where
+  pub reads : SyncThenReads 4 old new
+  pub synced : IsSynced old new
+
+-- What a run of a script did to the disk that ended so. Where the script was refused, nothing; where
+-- the image was refused, or there are no entries, it was opened, or failed while it was.
+abbrev pub SparesExec : Exit → Seen → Seen → List Entry → Type 0
+SparesExec exit.Done old new entries = entries ≡ [] → IsOnlyOpened old new
+SparesExec (exit.Usage at kind) old new entries = new ≡ old
+SparesExec (exit.Script line kind) old new entries = new ≡ old
+SparesExec (exit.ScriptLimit kind count) old new entries = new ≡ old
+SparesExec (exit.Image at kind) old new entries = IsOnlyOpened old new
+SparesExec (exit.Bad kind file index) old new entries = IsOnlyOpened old new
+SparesExec (exit.Disk count) old new entries = entries ≡ [] → SyncThenReads 4 old new
+SparesExec exit.Sink old new entries = entries ≡ [] → IsOnlyOpened old new
+SparesExec exit.Source old new entries = new ≡ old
+SparesExec exit.Memory old new entries = entries ≡ [] → (new ≡ old) ⊎ IsOnlyOpened old new
+
+-- what a format did to the disk that ended so: nothing where it has another length, or memory ran
+-- out, and else at most two calls
+abbrev pub SparesFormat : Exit → Seen → Seen → Type 0
+SparesFormat exit.Done old new = new.calls ≤ old.calls + 2
+SparesFormat (exit.Disk count) old new = new.calls ≤ old.calls + 2
+SparesFormat (exit.Image at kind) old new = new ≡ old
+SparesFormat exit.Memory old new = new ≡ old
+SparesFormat (exit.Usage at kind) old new = ⊥
+SparesFormat (exit.Script line kind) old new = ⊥
+SparesFormat (exit.ScriptLimit kind count) old new = ⊥
+SparesFormat (exit.Bad kind file index) old new = ⊥
+SparesFormat exit.Sink old new = ⊥
+SparesFormat exit.Source old new = ⊥
+
+-- What a run did to the disk that ended so. Words that are no command leave it as it was.
+abbrev pub Spares : Result Words Fault → Exit → Seen → Seen → List Entry → Type 0
+Spares (Err fault) status old new entries = new ≡ old
+Spares (Ok words) status old new entries =
+    IsExec words.verb (SparesExec status old new entries) (SparesFormat status old new)
 
 -- A script takes at most so much of the source as it may hold, and one byte; at `Done` all of it.
 pub record TakesScript (status : Exit) (left left_now : Option (List ℕ)) : Type 0 where
-  pub most : TakesAtMost (MOST_BYTES + 1) left left_now
+  pub most : TakesAtMost (MOST_SCRIPT_BYTES + 1) left left_now
   pub all : status ≡ exit.Done → IfSome left (λ bytes. left_now ≡ Some [])
 
 -- P holds where all output was written: not where the sink failed, or memory ran out
 abbrev pub WritesAll : Exit → Type 0 → Type 0
+WritesAll exit.Done P = P
+WritesAll (exit.Usage at kind) P = P
+WritesAll (exit.Script line kind) P = P
+WritesAll (exit.ScriptLimit kind count) P = P
+WritesAll (exit.Image at kind) P = P
+WritesAll (exit.Bad kind file index) P = P
+WritesAll (exit.Disk count) P = P
 WritesAll exit.Sink P = ⊤
+WritesAll exit.Source P = P
 WritesAll exit.Memory P = ⊤
-WritesAll _ P = P
 
 -- P holds where the lines ran, and no commit failed
-abbrev pub IfKept : Exit → List Entry → Type 0 → Type 0
-IfKept exit.Done entries P = P
-IfKept exit.Sink entries P = any_down entries ≡ false → P
-IfKept exit.Memory entries P = entries ≢ [] → any_down entries ≡ false → P
-IfKept _ entries P = ⊤
+abbrev pub IfUp : Exit → List Entry → Type 0 → Type 0
+IfUp exit.Done entries P = P
+IfUp (exit.Usage at kind) entries P = ⊤
+IfUp (exit.Script line kind) entries P = ⊤
+IfUp (exit.ScriptLimit kind count) entries P = ⊤
+IfUp (exit.Image at kind) entries P = ⊤
+IfUp (exit.Bad kind file index) entries P = ⊤
+IfUp (exit.Disk count) entries P = ⊤
+IfUp exit.Sink entries P = any_down entries ≡ false → P
+IfUp exit.Source entries P = ⊤
+IfUp exit.Memory entries P = entries ≢ [] → any_down entries ≡ false → P
 
 -- the layout of the least image
 abbrev pub least_layout : Layout
@@ -220,7 +273,7 @@ pub record HoldsFiles (m : List ℕ) (v : VolumeTable) (w : World) : Type 0 wher
   pub stands : StandsFor v m w.files
 
 -- The table that was opened is one, of the disk's length, its files go together, and the disk was
--- called at most four times.
+-- called at most five times.
 pub record IsOpened (s : Stage) (old : Seen) : Type 0 where
   pub table : IsTable s.table
   pub good : IsGood s.table
@@ -228,17 +281,28 @@ pub record IsOpened (s : Stage) (old : Seen) : Type 0 where
   pub up : s.down ≡ None
   pub faults : old.faults ≤ s.faults
   pub calls : old.calls ≤ s.calls
-  pub few : s.calls ≤ old.calls + 4
+  pub few : s.calls ≤ old.calls + 5
 
 -- the last stage has the counts of the returned disk
 pub record IsLast (s : Stage) (new : Seen) : Type 0 where
   pub faults : s.faults ≡ new.faults
   pub calls : s.calls ≡ new.calls
 
--- the lines ran on an opened image: there are entries, or the image is one that is opened, and the
--- call with which opening begins was a sync that succeeded
-abbrev pub HasOpened : Seen → DiskRecord → List Entry → Type 0
-HasOpened old now entries = (entries ≢ []) ⊎ (IsImage (live_of old) × SyncsAt old.calls now)
+-- What is to be known of a run that ended so for each stop to be survived: nothing where the lines
+-- ran, and else that the image is one that opens. Where the disk failed without entries, it may have
+-- failed at the sync with which opening begins: then that one has to have succeeded.
+abbrev pub HasOpened : Exit → Seen → DiskRecord → List Entry → Type 0
+HasOpened exit.Done old now entries = ⊤
+HasOpened (exit.Usage at kind) old now entries = IsGoodImage (live_of old)
+HasOpened (exit.Script line kind) old now entries = IsGoodImage (live_of old)
+HasOpened (exit.ScriptLimit kind count) old now entries = IsGoodImage (live_of old)
+HasOpened (exit.Image at kind) old now entries = IsGoodImage (live_of old)
+HasOpened (exit.Bad kind file index) old now entries = IsGoodImage (live_of old)
+HasOpened (exit.Disk count) old now entries =
+    (entries ≢ []) ⊎ (IsGoodImage (live_of old) × SyncsAt old.calls now)
+HasOpened exit.Sink old now entries = ⊤
+HasOpened exit.Source old now entries = IsGoodImage (live_of old)
+HasOpened exit.Memory old now entries = (entries ≢ []) ⊎ IsGoodImage (live_of old)
 
 -- One legal history of separate files, which begins with those of the opening image, and leads from
 -- the stage at opening to the last one. Where no commit failed, the last live bytes hold what came
@@ -255,27 +319,28 @@ pub record IsHistory (old new : Seen) (status : Exit) (entries : List Entry) : T
   pub order : AreInOrder entries
   pub kept : IsRun opened entries last
   pub ends : entries ≢ [] → IsLast last new
-  pub held : IfKept status entries
+  pub image : IfUp status entries
       (IfSome (live_of new) (λ m. HoldsFiles m last.table (world_after world entries)))
   pub stops : (before now : DiskRecord) → old.told ≡ Some before → new.told ≡ Some now
-      → HasOpened old now entries
+      → HasOpened status old now entries
       → SurvivesStops (old.calls + 1) world entries now
 
 -- A run ends in `Done` only where no commit failed, and in `Disk` only where one did, or where the
--- disk was synced and read, as where opening failed.
-abbrev pub TellsDown : Exit → Type 0 → List Entry → Type 0
-TellsDown exit.Done unopened entries = any_down entries ≡ false
-TellsDown (exit.Disk count) unopened entries =
-    (any_down entries ≡ true) ⊎ ((entries ≡ []) × unopened)
-TellsDown _ unopened entries = ⊤
+-- disk failed while it was opened, so that there are no entries. A fault of the sink, and want of
+-- memory, decide over a commit that failed.
+abbrev pub TellsDown : Exit → List Entry → Type 0
+TellsDown exit.Done entries = any_down entries ≡ false
+TellsDown (exit.Usage at kind) entries = any_down entries ≡ false
+TellsDown (exit.Script line kind) entries = any_down entries ≡ false
+TellsDown (exit.ScriptLimit kind count) entries = any_down entries ≡ false
+TellsDown (exit.Image at kind) entries = any_down entries ≡ false
+TellsDown (exit.Bad kind file index) entries = any_down entries ≡ false
+TellsDown (exit.Disk count) entries = (any_down entries ≡ true) ⊎ (entries ≡ [])
+TellsDown exit.Sink entries = ⊤
+TellsDown exit.Source entries = any_down entries ≡ false
+TellsDown exit.Memory entries = ⊤
 
 -- ---- what format does
-
--- P holds where nothing was written: the disk has another length, or memory ran out
-abbrev pub IfRefused : Exit → Type 0 → Type 0
-IfRefused (exit.Image at kind) P = P
-IfRefused exit.Memory P = P
-IfRefused _ P = ⊤
 
 -- The image has the table without files, and the last call was a sync.
 pub record IsFormatted (l : Layout) (seen : Seen) : Type 0 where
@@ -290,43 +355,49 @@ CauseOfEnd n exit.Done = ⊤
 CauseOfEnd n (exit.Disk count) = Rose n.disk n.disk_now × (count ≡ risen n.disk n.disk_now)
 CauseOfEnd n exit.Sink = Rose n.sink n.sink_now
 CauseOfEnd n exit.Memory = ⊤
-CauseOfEnd n _ = ⊥
+CauseOfEnd n (exit.Usage at kind) = ⊥
+CauseOfEnd n (exit.Script line kind) = ⊥
+CauseOfEnd n (exit.ScriptLimit kind count) = ⊥
+CauseOfEnd n (exit.Image at kind) = ⊥
+CauseOfEnd n (exit.Bad kind file index) = ⊥
+CauseOfEnd n exit.Source = ⊥
 
 -- what a run of some lines on an opened volume leaves
 pub record LeavesRun (v : VolumeView) (lines : List Line) (n : Counts)
-    (held held_now : Option (List ℕ)) (now : Seen) (status : Exit)
+    (out out_now : Option (List ℕ)) (now : Seen) (status : Exit)
     (entries : List Entry) : Type 0 where
   pub last : Stage
-  pub order : ((entries ≡ []) × (now ≡ v.seen)) ⊎ (map line_of entries ≡ exec_order lines)
+  pub none : entries ≡ [] → now ≡ v.seen
+  pub order : (entries ≡ []) ⊎ (map line_of entries ≡ exec_order lines)
   pub all : status ≢ exit.Memory → map line_of entries ≡ exec_order lines
   pub kept : IsRun (stage_of v) entries last
   pub ends : entries ≢ [] → IsLast last now
   pub world : (w : World) → ShowsWorld w v → IsLegal w entries
-      × IfKept status entries
+      × IfUp status entries
       (IfSome (live_of now) (λ m. HoldsFiles m last.table (world_after w entries)))
   pub stops : (first : ℕ) (w : World) → ShowsWorld w v → IsSurvived first w [] v
       → Survives first w entries now
-  pub written : WritesAll status (Appended held held_now (printed entries))
-  pub front : AppendedFront held held_now (printed entries)
-  pub down : TellsDown status ⊥ entries
+  pub written : WritesAll status (Appended out out_now (printed entries))
+  pub front : AppendedFront out out_now (printed entries)
+  pub down : TellsDown status entries
   pub cause : CauseOfEnd n status
 
 -- what a run of a script leaves
 pub record Serves (left left_now : Option (List ℕ)) (old new : Seen) (n : Counts)
-    (held held_now : Option (List ℕ)) (status : Exit) (entries : List Entry) : Type 0 where
+    (out out_now : Option (List ℕ)) (status : Exit) (entries : List Entry) : Type 0 where
   pub history : IsHistory old new status entries
-  pub calls : HasCalls status (SyncThenReads 3 old new) left entries
-  pub spared : Spares status old new
+  pub calls : HasCalls status left entries
+  pub spared : SparesExec status old new entries
   pub input : TakesScript status left left_now
-  pub down : TellsDown status (SyncThenReads 3 old new) entries
-  pub written : WritesAll status (Appended held held_now (printed entries))
-  pub front : AppendedFront held held_now (printed entries)
+  pub down : TellsDown status entries
+  pub written : WritesAll status (Appended out out_now (printed entries))
+  pub front : AppendedFront out out_now (printed entries)
   pub cause : ExecCause left (live_of old) n status
 
 -- what formatting a disk leaves
 pub record Formats (l : Layout) (old new : Seen) (status : Exit)
     (entries : List Entry) : Type 0 where
   pub none : entries ≡ []
-  pub refused : IfRefused status (new ≡ old)
+  pub spared : SparesFormat status old new
   pub formatted : status ≡ exit.Done → IsFormatted l new
   pub cause : FormatCause l old.size old.faults new.faults status

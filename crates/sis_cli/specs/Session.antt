@@ -17,7 +17,7 @@ use Rattle.sis_script.specs.Script.{IsBuilt}
 use Rattle.sis_table.specs.Volume.{node_named, ids_of}
 use Rattle.sis_table.specs.Content.{files_in}
 use Rattle.sis_volume.specs.View.{VolumeView}
-use Rattle.sis_cli.specs.Stages.{Fits, Changes, IsRun, is_down, any_down, Stage, GoesDown, commits}
+use Rattle.sis_cli.specs.Stages.{Fits, Changes, IsRun, is_down, any_down, Stage, AnswersDown, commits}
 
 -- The volume's names and sizes are those of the world's files, and where its disk tells its bytes,
 -- it stands for the files. Nothing is open.
@@ -45,10 +45,10 @@ pub record Decides (old new : VolumeView) (client : ℕ) (c : Command) (r : Repl
       → MayReply w client c r × ShowsWorld (world_with w client c r) new
   pub fits : Fits old.table (Rose old.seen.faults new.seen.faults) c r
   pub changes : Changes old.table c r new.table
-  pub down : GoesDown old.down new.down (stage_of old) c r (stage_of new)
+  pub down : AnswersDown old.down new.down (stage_of old) c r (stage_of new)
   pub elapses : Elapses old.seen new.seen
   -- what was done before a sync or an end is durable, unless a commit failed
-  pub settled : commits c ≡ true → new.down ≡ None → new.is_changed ≡ false
+  pub committed : commits c ≡ true → new.down ≡ None → new.is_changed ≡ false
 
 -- The same of a command that only tells what there is.
 pub record Tells (v : VolumeView) (client : ℕ) (c : Command) (r : Reply) : Type 0 where
@@ -81,13 +81,14 @@ ends_with_end [] = true
 ends_with_end (l ∷ []) = is_end l.command
 ends_with_end (l ∷ m ∷ ls) = ends_with_end (m ∷ ls)
 
--- These entries were decided, one after the other.
+-- These entries were decided, one after the other. Without entries nothing was done.
 pub record HasRun (old new : VolumeView) (entries : List Entry) : Type 0 where
+  pub none : entries ≡ [] → new ≡ old
   pub world : (w : World) → ShowsWorld w old
       → IsLegal w entries × ShowsWorld (world_after w entries) new
   pub kept : IsRun (stage_of old) entries (stage_of new)
   pub since : (before : ℕ) → IsSince before old → IsSince before new
   pub elapses : Elapses old.seen new.seen
   pub down : old.down ≡ None → any_down entries ≡ is_some new.down
-  pub settled : old.is_changed ≡ false → ends_with_end (map line_of entries) ≡ true
+  pub committed : old.is_changed ≡ false → ends_with_end (map line_of entries) ≡ true
       → new.down ≡ None → new.is_changed ≡ false

@@ -80,37 +80,73 @@ IsPutCause v rose name bytes (hindrance.TableFull needed cap) =
     (put_hindrance v (length bytes) ≡ None) × IsTooLong v name bytes needed cap
 IsPutCause v rose name bytes hindrance.Memory = ⊤
 
--- What a hindrance of any other command says: a commit failed, or there was no memory.
-abbrev pub IsOtherCause : Hindrance → Type 0
-IsOtherCause (hindrance.Limit kind) = ⊥
-IsOtherCause (hindrance.Full needed used_now total) = ⊥
-IsOtherCause (hindrance.Down at) = ⊤
-IsOtherCause hindrance.Disk = ⊥
-IsOtherCause (hindrance.TableFull needed cap) = ⊥
-IsOtherCause hindrance.Memory = ⊤
+-- no hindrance but a commit that failed: when that comes, `AnswersDown` says
+abbrev pub IsDownOnly : Hindrance → Type 0
+IsDownOnly (hindrance.Limit kind) = ⊥
+IsDownOnly (hindrance.Full needed used_now total) = ⊥
+IsDownOnly (hindrance.Down at) = ⊤
+IsDownOnly hindrance.Disk = ⊥
+IsDownOnly (hindrance.TableFull needed cap) = ⊥
+IsDownOnly hindrance.Memory = ⊥
 
--- When `Down` comes, `GoesDown` says.
-abbrev pub IsCauseOf : VolumeTable → Type 0 → Command → Hindrance → Type 0
-IsCauseOf v rose (command.Put name bytes) by = IsPutCause v rose name bytes by
-IsCauseOf v rose _ by = IsOtherCause by
+-- no hindrance but that, and want of memory
+abbrev pub IsDownOrMemory : Hindrance → Type 0
+IsDownOrMemory (hindrance.Limit kind) = ⊥
+IsDownOrMemory (hindrance.Full needed used_now total) = ⊥
+IsDownOrMemory (hindrance.Down at) = ⊤
+IsDownOrMemory hindrance.Disk = ⊥
+IsDownOrMemory (hindrance.TableFull needed cap) = ⊥
+IsDownOrMemory hindrance.Memory = ⊤
 
--- nothing hinders the command by numbers alone
-abbrev pub IsUnhindered : VolumeTable → Command → Type 0
-IsUnhindered v (command.Put name bytes) = put_hindrance v (length bytes) ≡ None
-IsUnhindered v _ = ⊤
+-- What the replies of each command say of the table before it. Which refusal comes, and which names
+-- and sizes are told, says the world of files; no other reply comes.
+abbrev pub FitsPut : VolumeTable → Type 0 → List ℕ → List ℕ → Reply → Type 0
+FitsPut v rose name bytes reply.Done = put_hindrance v (length bytes) ≡ None
+FitsPut v rose name bytes reply.InvalidParameter = ⊤
+FitsPut v rose name bytes reply.AccessDenied = ⊤
+FitsPut v rose name bytes reply.Collision = ⊤
+FitsPut v rose name bytes (reply.Hindered by) = IsPutCause v rose name bytes by
+FitsPut v rose name bytes _ = ⊥
+
+abbrev pub FitsStat : Reply → Type 0
+FitsStat (reply.Sized size) = ⊤
+FitsStat reply.AccessDenied = ⊤
+FitsStat reply.NotFound = ⊤
+FitsStat (reply.Hindered by) = IsDownOnly by
+FitsStat _ = ⊥
+
+abbrev pub FitsList : Reply → Type 0
+FitsList (reply.Names names more) = ⊤
+FitsList (reply.Hindered by) = IsDownOrMemory by
+FitsList _ = ⊥
+
+abbrev pub FitsSpace : VolumeTable → Reply → Type 0
+FitsSpace v (reply.Space used_now total) = (used_now ≡ used v) × (total ≡ data_blocks v.layout)
+FitsSpace v (reply.Hindered by) = IsDownOnly by
+FitsSpace v _ = ⊥
+
+abbrev pub FitsSync : Reply → Type 0
+FitsSync reply.Done = ⊤
+FitsSync (reply.Hindered by) = IsDownOnly by
+FitsSync _ = ⊥
+
+-- no file is a link so far, so none is left unsettled
+abbrev pub FitsEnd : Reply → Type 0
+FitsEnd (reply.Ended closed unsettled) = unsettled ≡ []
+FitsEnd (reply.Hindered by) = IsDownOnly by
+FitsEnd _ = ⊥
 
 -- What a reply says of the table before its step. So a put that isn't refused is answered `Done`
 -- only where no limit is met and there is room, and a limit or `Full` exactly where its numbers say
--- so.
+-- so. Other commands aren't carried out so far.
 abbrev pub Fits : VolumeTable → Type 0 → Command → Reply → Type 0
-Fits v rose c (reply.Hindered by) = IsCauseOf v rose c by
-Fits v rose c (reply.Space used_now total) = (used_now ≡ used v) × (total ≡ data_blocks v.layout)
-Fits v rose c reply.Done = IsUnhindered v c
-Fits v rose c (reply.Ended closed unsettled) = unsettled ≡ []
--- no file is a link so far
-Fits v rose c reply.NotShared = ⊥
-Fits v rose c (reply.Unsettled left) = ⊥
-Fits v rose c _ = ⊤
+Fits v rose (command.Put name bytes) r = FitsPut v rose name bytes r
+Fits v rose (command.Stat name) r = FitsStat r
+Fits v rose (command.List after) r = FitsList r
+Fits v rose command.Space r = FitsSpace v r
+Fits v rose command.Sync r = FitsSync r
+Fits v rose command.End r = FitsEnd r
+Fits v rose _ r = ⊥
 
 -- the reply says that a commit failed
 abbrev pub is_down : Reply → Bool
@@ -145,28 +181,30 @@ commits command.Sync = true
 commits command.End = true
 commits _ = false
 
--- the commands that may commit
-abbrev pub may_commit : Command → Bool
-may_commit (command.Put name bytes) = true
-may_commit c = commits c
+-- the command may commit, and no number hinders it
+abbrev pub MayReachCommit : VolumeTable → Command → Type 0
+MayReachCommit v (command.Put name bytes) = put_hindrance v (length bytes) ≡ None
+MayReachCommit v command.Sync = ⊤
+MayReachCommit v command.End = ⊤
+MayReachCommit v _ = ⊥
 
--- Only such a command's commit fails, where nothing hinders it by numbers, and by a fault of the
--- disk in this step, which is its last call, or was refused behind it. From then on each command is
--- answered so, and the disk isn't called.
-abbrev pub GoesDown : Option ℕ → Option ℕ → Stage → Command → Reply → Stage → Type 0
-GoesDown (Some at) now s c r t =
+-- Only such a command's commit fails, and by a fault of the disk in this step, which is its last
+-- call, or was refused behind it. From then on each command is answered so, and the disk isn't
+-- called.
+abbrev pub AnswersDown : Option ℕ → Option ℕ → Stage → Command → Reply → Stage → Type 0
+AnswersDown (Some at) now s c r t =
     (r ≡ reply.Hindered (hindrance.Down at)) × (now ≡ Some at) × (t.calls ≡ s.calls)
     × (t.faults ≡ s.faults)
-GoesDown None None s c r t = is_down r ≡ false
-GoesDown None (Some at) s c r t =
-    (may_commit c ≡ true) × (r ≡ reply.Hindered (hindrance.Down at)) × Rose s.faults t.faults
-    × IsUnhindered s.table c × (s.calls ≤ at) × ((t.calls ≡ at + 1) ⊎ (t.calls ≡ at))
+AnswersDown None None s c r t = is_down r ≡ false
+AnswersDown None (Some at) s c r t =
+    MayReachCommit s.table c × (r ≡ reply.Hindered (hindrance.Down at)) × Rose s.faults t.faults
+    × (s.calls ≤ at) × ((t.calls ≡ at + 1) ⊎ (t.calls ≡ at))
 
 -- from one stage to the next by one entry
 pub record IsStep (s : Stage) (e : Entry) (t : Stage) : Type 0 where
   pub fits : Fits s.table (Rose s.faults t.faults) e.command e.reply
   pub changes : Changes s.table e.command e.reply t.table
-  pub down : GoesDown s.down t.down s e.command e.reply t
+  pub down : AnswersDown s.down t.down s e.command e.reply t
   pub faults : s.faults ≤ t.faults
   pub calls : s.calls ≤ t.calls
   pub decided : e.decided ≡ t.calls

@@ -1,7 +1,6 @@
 -- What a stop of the disk during a run may leave.
-use Rattle.std.specs.Prelude.{◌≡◌, ◌⊎◌, ℕ, true, List, [], length, is_some, slice_get, None, Some, IfSome}
+use Rattle.std.specs.Prelude.{◌≡◌, ℕ, true, List, [], slice_get, None, Some}
 use Rattle.sis_disk.specs.Record.{DiskRecord, Seen, Syncs}
-use Rattle.sis_disk.specs.Stops.{Leaves}
 use Rattle.sis_history.specs.Durable.{makes_durable}
 use Rattle.sis_history.specs.Loop.{AreCommitted}
 use Rattle.sis_history.specs.Stops.{Survives}
@@ -9,35 +8,11 @@ use Rattle.sis_model.specs.World.{World}
 use Rattle.sis_model.specs.declared.command.Command.{Command}
 use Rattle.sis_model.specs.declared.reply.Reply.{Reply}
 use Rattle.sis_model.specs.declared.history.Entry.{Entry}
-use Rattle.sis_table.specs.Content.{Files, files_in}
+use Rattle.sis_name.specs.Files.{Files}
 use Rattle.sis_table.specs.Good.{IsGood}
-use Rattle.sis_table.specs.Opens.{OpensAs}
 use Rattle.sis_volume.specs.Stopping.{OpensNow, OpensTable}
 use Rattle.sis_volume.specs.View.{VolumeView}
 use Rattle.sis_cli.specs.Session.{ShowsWorld}
-
--- the disk counts the calls that it tells
-abbrev pub IsCounted : Seen → Type 0
-IsCounted seen = IfSome seen.told (λ r. length r.calls ≡ seen.calls)
-
--- the table's files go together and are the current ones, and each image of now opens as the
--- committed ones
-pub record HasFiles (committed current : Files) (v : VolumeView) : Type 0 where
-  pub good : IsGood v.table
-  pub stands : IfSome (files_in v.table v.seen) (λ files. files ≡ current)
-  pub opens : OpensNow committed v.seen
-
--- At each moment from old to new a stop leaves the committed files or the current ones, and at the
--- end the same whatever it leaves, unless a commit failed.
-pub record OpensEither (committed current : Files) (old new : VolumeView) : Type 0 where
-  pub images : Leaves (λ m. OpensAs committed m ⊎ OpensAs current m) old.seen new.seen
-  pub last : new.down ≡ None → OpensNow committed new.seen ⊎ OpensNow current new.seen
-
--- What the calls of a step leave to a stop. Once a commit failed there are none.
-pub record StopsWell (old new : VolumeView) : Type 0 where
-  pub up : old.down ≡ None → (committed current : Files) → HasFiles committed current old
-      → OpensEither committed current old new
-  pub down : is_some old.down ≡ true → new.seen ≡ old.seen
 
 -- where the reply says that all is durable, each image of now opens as the table's files
 abbrev pub IsDurable : VolumeView → Command → Reply → Type 0

@@ -14,7 +14,7 @@ ghost use Rattle.sis_disk.specs.Record.{live_of};
 ghost use Rattle.sis_table.specs.declared.runs.Run.{Run as ARun};
 ghost use Rattle.sis_cli.specs.Making.{HindersMaking, IsDownBy, StagesFile};
 ghost use Rattle.sis_cli.specs.Stages.{AddsFile, limit_of_new};
-ghost use Rattle.sis_cli.specs.Stops.{StopsWell};
+ghost use Rattle.sis_volume.specs.Stopping.{StopsWell};
 
 use sis_disk::Disk;
 use sis_model::Hindrance;

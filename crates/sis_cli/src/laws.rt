@@ -4,13 +4,14 @@ ghost use Rattle.std.specs.Prelude.{◌≡◌, ◌⊎◌, ℕ, List, [], Some, O
 ghost use Rattle.sis_disk.specs.Record.{Seen, live_of};
 ghost use Rattle.sis_journal.specs.declared.fault.OpenFault.{OpenFault as AnOpenFault};
 ghost use Rattle.sis_journal.specs.declared.fault.OpenFault.TheVariants as fault;
-ghost use Rattle.sis_table.specs.Content.{Files, files_in};
+ghost use Rattle.sis_table.specs.Content.{files_in};
+ghost use Rattle.sis_name.specs.Files.{Files};
 ghost use Rattle.sis_table.specs.Good.{IsGood};
 ghost use Rattle.sis_table.specs.Image.{image_at};
 ghost use Rattle.sis_table.specs.Opens.{OpensAs};
 ghost use Rattle.sis_table.specs.Volume.{VolumeTable};
 ghost use Rattle.sis_volume.specs.Opening.{FailsAs};
-ghost use Rattle.sis_cli.specs.Run.{IsImage, world_in};
+ghost use Rattle.sis_cli.specs.Run.{IsGoodImage, world_in};
 ghost use Rattle.sis_cli.specs.Stops.{BeginsWith};
 
 /// A disk whose bytes are an image that opens as some files is opened as a table that has just
@@ -27,5 +28,5 @@ pub fn stopped_image_opens_again()
         → IfSome (live_of seen) (λ live. FailsAs by (image_at live))
         → (by ≡ fault.Disk) ⊎ (by ≡ fault.Memory) }
     ensures begins { (files : Files) (m : List ℕ)
-        → OpensAs files m → IsImage (Some m) × ((world_in m).files ≡ files) }
+        → OpensAs files m → IsGoodImage (Some m) × ((world_in m).files ≡ files) }
 {}

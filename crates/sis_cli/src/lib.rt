@@ -1,6 +1,7 @@
 //! The top calls: the words of the command line, and `run`.
 #![tactic(auto)]
 
+mod ending;
 mod exit;
 mod fault_line;
 mod files;

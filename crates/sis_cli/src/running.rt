@@ -4,7 +4,9 @@ ghost use Rattle.sis_model.specs.Order.{line_of, exec_order, end_of};
 ghost use Rattle.sis_model.specs.declared.reply.Reply.{Reply as AReply};
 ghost use Rattle.sis_script.specs.Script.{IsBuilt};
 ghost use Rattle.sis_cli.specs.Session.{Decides, MayRun, HasRun, entry_of};
-ghost use Rattle.sis_cli.specs.Stops.{IsCounted, IsDurable, StopsWell, SurvivesRun};
+ghost use Rattle.sis_cli.specs.Stops.{IsDurable, SurvivesRun};
+ghost use Rattle.sis_disk.specs.Record.{IsCounted};
+ghost use Rattle.sis_volume.specs.Stopping.{StopsWell};
 
 use crate::session::answer;
 use sis_disk::Disk;

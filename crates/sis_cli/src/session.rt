@@ -6,7 +6,8 @@ ghost use Rattle.sis_model.specs.declared.command.Command.TheVariants as command
 ghost use Rattle.sis_table.specs.Volume.{node_named, names_after};
 ghost use Rattle.sis_cli.specs.Session.{Decides, Tells, MayRun};
 ghost use Rattle.sis_cli.specs.Stages.{limit_of_new};
-ghost use Rattle.sis_cli.specs.Stops.{IsDurable, StopsWell};
+ghost use Rattle.sis_cli.specs.Stops.{IsDurable};
+ghost use Rattle.sis_volume.specs.Stopping.{StopsWell};
 
 use crate::files::make_file;
 use sis_disk::Disk;
@@ -16,7 +17,7 @@ use sis_volume::Volume;
 use std::alloc::{AllocError, Global};
 
 /// The most bytes of one put.
-const MOST_BYTES: usize = 65536;
+const MOST_PUT_BYTES: usize = 65536;
 /// The most names of one list.
 const MOST_NAMES: usize = 100;
 /// The most files of a volume.
@@ -43,7 +44,7 @@ fn put<D: Disk>(volume: &mut Volume<D>, alloc: Global, name: &Name, bytes: &Byte
         → Decides volume.old volume.new client (command.Put name.now bytes.now) result }
     ensures stops { StopsWell volume.old volume.new }
 {
-    if bytes.as_slice().len() > MOST_BYTES {
+    if bytes.as_slice().len() > MOST_PUT_BYTES {
         return Reply::InvalidParameter;
     }
     if name.is_store() {

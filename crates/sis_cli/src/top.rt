@@ -1,19 +1,19 @@
 //! The call that the program makes.
-ghost use Rattle.std.specs.Prelude.{◌≡◌, ◌⊎◌, ◌*◌, ◌≤◌, ⊤, [], None, false, All, IfSome, ℕ, is_some, true};
+ghost use Rattle.std.specs.Prelude.{◌≡◌, ◌⊎◌, ◌*◌, ◌≤◌, ⊤, [], None, false, All, ℕ};
 ghost use Rattle.sis_disk.specs.Layout.{IsLayout};
-ghost use Rattle.sis_disk.specs.Record.{live_of, Rose};
+ghost use Rattle.sis_disk.specs.Record.{live_of};
 ghost use Rattle.sis_disk.specs.Streams.{Appended, AppendedFront};
 ghost use Rattle.sis_table.specs.Good.{IsGood};
 ghost use Rattle.sis_table.specs.Volume.{IsTable};
 ghost use Rattle.sis_script.specs.Printed.{printed};
 ghost use Rattle.sis_script.specs.Script.{IsBuilt};
-ghost use Rattle.sis_journal.specs.Opening.{SyncThenReads};
+ghost use Rattle.sis_cli.specs.Exit.{exit_of, risen};
 ghost use Rattle.sis_cli.specs.Words.{texts, plan_of};
 ghost use Rattle.sis_cli.specs.Run.{IfExec, IfFormat, ExitCause, IsAccepted, HasCalls, IsHistory};
-ghost use Rattle.sis_cli.specs.Run.{IsFormatted, CauseOfEnd, LeavesRun, Serves, Formats};
-ghost use Rattle.sis_cli.specs.Run.{TellsDown, WritesAll, Spares, IfRefused, TakesScript};
+ghost use Rattle.sis_cli.specs.Run.{IsFormatted, LeavesRun, Serves, Formats};
+ghost use Rattle.sis_cli.specs.Run.{TellsDown, WritesAll, Spares, TakesScript};
 
-use crate::exit::{fault_count, format_exit, open_exit, print_exit, script_exit};
+use crate::ending::{Ended, Ending};
 use crate::running::run_lines;
 use crate::{Exit, Outcome, plan};
 use sis_disk::{Disk, Guids, Layout, Sink, Source};
@@ -22,76 +22,27 @@ use sis_script::{Script, print_history, read_script};
 use sis_volume::{Refused, Volume};
 use std::alloc::Global;
 
-// A run that ended before its first line.
-fn ended<D: Disk>(alloc: Global, status: Exit, disk: D) -> Outcome<D>
-    ensures status { result.status ≡ status }
-    ensures entries { result.history.entries ≡ [] }
-    ensures disk { result.disk ≡ disk }
-{
-    Outcome {
-        status,
-        history: History::new(alloc),
-        disk,
-    }
-}
-
-// Prints what was answered, and says how the run ends.
-fn print_end<D: Disk, K: Sink>(
-    alloc: Global,
-    volume: &Volume<D>,
-    before: u64,
-    history: &History,
-    out: &mut K,
-) -> Exit
-    requires before { before ≤ volume.now.seen.faults }
-    requires down { IfSome volume.now.down (λ _. Rose before volume.now.seen.faults) }
-    ensures up { result ≡ Exit.Done → volume.now.down ≡ None }
-    ensures went { (count : ℕ) → result ≡ Exit.Disk count → is_some volume.now.down ≡ true }
-    ensures written { WritesAll result
-        (Appended (K.held out.old) (K.held out.new) (printed history.now.entries)) }
-    ensures front { AppendedFront (K.held out.old) (K.held out.new) (printed history.now.entries) }
-    ensures cause { CauseOfEnd (record {
-      disk = before;
-      disk_now = volume.now.seen.faults;
-      source = 0;
-      source_now = 0;
-      sink = K.faults out.old;
-      sink_now = K.faults out.new;
-    }) result }
-    ensures later { K.faults out.old ≤ K.faults out.new }
-{
-    if let Err(fault) = print_history(alloc, history, out) {
-        return print_exit(fault);
-    }
-    if volume.down().is_some() {
-        return Exit::Disk {
-            count: fault_count(before, volume.faults()),
-        };
-    }
-    Exit::Done
-}
-
 // Runs the lines of a script on an opened volume, and prints what was answered.
 fn exec_lines<D: Disk, K: Sink>(
     alloc: Global,
     volume: Volume<D>,
-    before: u64,
     lines: Vec<Line>,
     out: &mut K,
-) -> Outcome<D>
-    requires before { before ≤ volume.seen.faults }
+) -> Ended<D>
     requires up { volume.down ≡ None }
     requires good { IsGood volume.table }
     requires clean { volume.is_changed ≡ false }
     requires built { All (λ l. IsBuilt l.command) lines.items }
-    ensures runs { LeavesRun volume lines.items (record {
-      disk = before;
-      disk_now = (D.seen result.disk).faults;
-      source = 0;
-      source_now = 0;
-      sink = K.faults out.old;
-      sink_now = K.faults out.new;
-    }) (K.held out.old) (K.held out.new) (D.seen result.disk) result.status
+    ensures runs { (before : ℕ) → before ≤ volume.seen.faults
+        → LeavesRun volume lines.items (record {
+          disk = before;
+          disk_now = (D.seen result.disk).faults;
+          source = 0;
+          source_now = 0;
+          sink = K.faults out.old;
+          sink_now = K.faults out.new;
+        }) (K.written out.old) (K.written out.new) (D.seen result.disk)
+        (exit_of (risen before (D.seen result.disk).faults) result.ending)
         result.history.entries }
     ensures table { IsTable volume.table }
     ensures size { volume.seen.size ≡ 4096 * volume.table.layout.total }
@@ -100,24 +51,20 @@ fn exec_lines<D: Disk, K: Sink>(
     let _ = volume.layout();
     match run_lines(&mut volume, alloc, lines) {
         Ok(history) => {
-            let status = print_end(alloc, &volume, before, &history, out);
-            Outcome {
-                status,
+            let printed = print_history(alloc, &history, out);
+            let is_down = volume.down().is_some();
+            Ended {
+                ending: Ending::Ran { printed, is_down },
                 history,
                 disk: volume.into_disk(),
             }
         }
-        Err(_) => ended(alloc, Exit::Memory, volume.into_disk()),
+        Err(_) => Ended::without_lines(alloc, Ending::NoRoom, volume.into_disk()),
     }
 }
 
 // Reads a script, and runs it on the disk's image.
-fn exec<D: Disk, S: Source, K: Sink>(
-    alloc: Global,
-    disk: D,
-    input: &mut S,
-    out: &mut K,
-) -> Outcome<D>
+fn exec<D: Disk, S: Source, K: Sink>(alloc: Global, disk: D, input: &mut S, out: &mut K) -> Ended<D>
     ensures { Serves (S.left input.old) (S.left input.new) (D.seen disk) (D.seen result.disk)
         (record {
           disk = (D.seen disk).faults;
@@ -126,35 +73,30 @@ fn exec<D: Disk, S: Source, K: Sink>(
           source_now = S.faults input.new;
           sink = K.faults out.old;
           sink_now = K.faults out.new;
-        }) (K.held out.old) (K.held out.new) result.status result.history.entries }
+        }) (K.written out.old) (K.written out.new)
+        (exit_of (risen (D.seen disk).faults (D.seen result.disk).faults) result.ending)
+        result.history.entries }
 {
     let lines = match read_script(alloc, input) {
         Ok(Script { lines, schedule: _ }) => lines,
-        Err(fault) => return ended(alloc, script_exit(fault), disk),
+        Err(fault) => return Ended::without_lines(alloc, Ending::Script(fault), disk),
     };
-    let before = disk.faults();
     match Volume::open(alloc, disk) {
-        Ok(volume) => exec_lines(alloc, volume, before, lines, out),
-        Err(Refused { disk, fault }) => {
-            let count = fault_count(before, disk.faults());
-            ended(alloc, open_exit(fault, count), disk)
-        }
+        Ok(volume) => exec_lines(alloc, volume, lines, out),
+        Err(Refused { disk, fault }) => Ended::without_lines(alloc, Ending::Image(fault), disk),
     }
 }
 
 // Makes the disk an image without files.
-fn format<D: Disk>(alloc: Global, disk: D, layout: Layout) -> Outcome<D>
+fn format<D: Disk>(alloc: Global, disk: D, layout: Layout) -> Ended<D>
     requires { IsLayout layout }
-    ensures { Formats layout (D.seen disk) (D.seen result.disk) result.status
+    ensures { Formats layout (D.seen disk) (D.seen result.disk)
+        (exit_of (risen (D.seen disk).faults (D.seen result.disk).faults) result.ending)
         result.history.entries }
 {
     let mut disk = disk;
-    let before = disk.faults();
-    let status = match Volume::format(alloc, &mut disk, layout) {
-        Ok(()) => Exit::Done,
-        Err(fault) => format_exit(fault, fault_count(before, disk.faults())),
-    };
-    ended(alloc, status, disk)
+    let formatted = Volume::format(alloc, &mut disk, layout);
+    Ended::without_lines(alloc, Ending::Format(formatted), disk)
 }
 
 /// Serves the command that the words are: reads its input, carries it out on the disk's image, and
@@ -179,26 +121,26 @@ pub fn run<D: Disk, S: Source, K: Sink, G: Guids>(
 
     // It has the script's calls, each once, in order; or none, where the run ended before the
     // first.
-    ensures calls { IfExec (plan_of (texts words.now)) (HasCalls result.status
-        (SyncThenReads 3 (D.seen disk) (D.seen result.disk)) (S.left input.old)
-        result.history.entries) (result.history.entries ≡ []) }
+    ensures calls { IfExec (plan_of (texts words.now))
+        (HasCalls result.status (S.left input.old) result.history.entries)
+        (result.history.entries ≡ []) }
 
-    // What was refused leaves the disk as it was, and nothing else takes of the input.
-    ensures spared { Spares result.status (D.seen disk) (D.seen result.disk) }
-    ensures unformatted { IfFormat (plan_of (texts words.now)) (λ layout.
-        IfRefused result.status (D.seen result.disk ≡ D.seen disk)) }
+    // What was refused leaves the disk as it was, a script without lines calls it no more than
+    // opening does, and nothing else takes of the input.
+    ensures spared { Spares (plan_of (texts words.now)) result.status
+        (D.seen disk) (D.seen result.disk) result.history.entries }
     ensures input { IfExec (plan_of (texts words.now))
         (TakesScript result.status (S.left input.old) (S.left input.new))
         (S.left input.new ≡ S.left input.old) }
 
     // `Done` comes only where no commit failed, and `Disk` after the lines only where one did.
-    ensures down { IfExec (plan_of (texts words.now)) (TellsDown result.status
-        (SyncThenReads 3 (D.seen disk) (D.seen result.disk)) result.history.entries) ⊤ }
+    ensures down { IfExec (plan_of (texts words.now))
+        (TellsDown result.status result.history.entries) ⊤ }
 
     // The bytes written are the printed history, or a front of it where the sink or memory failed.
     ensures written { WritesAll result.status
-        (Appended (K.held out.old) (K.held out.new) (printed result.history.entries)) }
-    ensures front { AppendedFront (K.held out.old) (K.held out.new)
+        (Appended (K.written out.old) (K.written out.new) (printed result.history.entries)) }
+    ensures front { AppendedFront (K.written out.old) (K.written out.new)
         (printed result.history.entries) }
 
     // A formatted image has no files, and is stable.
@@ -228,10 +170,17 @@ pub fn run<D: Disk, S: Source, K: Sink, G: Guids>(
     let _ = guids;
     let plan = match plan(alloc, words) {
         Ok(plan) => plan,
-        Err(fault) => return ended(alloc, Exit::from(fault), disk),
+        Err(fault) => {
+            return Outcome {
+                status: Exit::from(fault),
+                history: History::new(alloc),
+                disk,
+            };
+        }
     };
+    let before = disk.faults();
     match plan.layout {
-        Some(layout) => format(alloc, disk, layout),
-        None => exec(alloc, disk, input, out),
+        Some(layout) => format(alloc, disk, layout).outcome(before),
+        None => exec(alloc, disk, input, out).outcome(before),
     }
 }

@@ -9,7 +9,7 @@ use Rattle.sis_model.specs.History.{world_after}
 use Rattle.sis_model.specs.World.{World}
 use Rattle.sis_model.specs.declared.history.Entry.{Entry}
 use Rattle.sis_model.proofs.Histories.{world_after-push}
-use Rattle.sis_table.specs.Content.{Files}
+use Rattle.sis_name.specs.Files.{Files}
 use Rattle.sis_table.specs.Opens.{OpensAs}
 use Rattle.sis_history.specs.Durable.{is_durable}
 use Rattle.sis_history.specs.Loop.{AreCommitted}

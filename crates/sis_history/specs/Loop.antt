@@ -4,7 +4,7 @@ use Rattle.std.specs.List.{AllByRecursion}
 use Rattle.sis_model.specs.History.{world_after}
 use Rattle.sis_model.specs.World.{World}
 use Rattle.sis_model.specs.declared.history.Entry.{Entry}
-use Rattle.sis_table.specs.Content.{Files}
+use Rattle.sis_name.specs.Files.{Files}
 use Rattle.sis_history.specs.Durable.{is_durable}
 
 -- none of the entries is durable

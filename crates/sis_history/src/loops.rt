@@ -10,7 +10,7 @@ ghost use Rattle.sis_model.specs.Answer.{world_with};
 ghost use Rattle.sis_model.specs.History.{world_after};
 ghost use Rattle.sis_model.specs.World.{World};
 ghost use Rattle.sis_model.specs.declared.history.Entry.{Entry as AnEntry};
-ghost use Rattle.sis_table.specs.Content.{Files};
+ghost use Rattle.sis_name.specs.Files.{Files};
 ghost use Rattle.sis_table.specs.Opens.{OpensAs};
 
 /// An image is safe where it opens as the files after some of the entries, and none behind them is

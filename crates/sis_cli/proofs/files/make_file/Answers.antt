@@ -1,6 +1,6 @@
 use Rattle.sis_cli.proofs.Added.{may_put}
 use Rattle.sis_cli.proofs.Makes.{files_made, file_made, hinders_made, within_limits}
-use Rattle.sis_cli.proofs.Stopping.{stops_applied}
+use Rattle.sis_volume.proofs.Stopping.{stops_applied}
 use Rattle.sis_cli.proofs.files.make_file.Goals as goal
 
 pub apply-requires : goal.apply-requires

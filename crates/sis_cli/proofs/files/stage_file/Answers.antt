@@ -1,4 +1,4 @@
-use Rattle.sis_cli.proofs.Stopping.{stops_room, stops_staged}
+use Rattle.sis_volume.proofs.Stopping.{stops_room, stops_staged}
 use Rattle.sis_cli.proofs.files.stage_file.Goals as goal
 
 pub returns-in_err-room-clause-stops : goal.returns-in_err-room-clause-stops

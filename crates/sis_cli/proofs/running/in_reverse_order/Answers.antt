@@ -1,5 +1,6 @@
 use Rattle.std.proofs.Common.{refl, ap, not}
-use Rattle.sis_cli.proofs.InOrder.{all_numbers, read_end, ordered_none, ordered_more, none_run, few_ends, built_rest, runs_more}
+use Rattle.sis_cli.proofs.InOrder.{none_run, built_rest, runs_more}
+use Rattle.sis_model.proofs.Ordering.{all_numbers, read_end, ordered_none, ordered_more, few_ends}
 use Rattle.sis_cli.proofs.running.in_reverse_order.Goals as goal
 
 pub loop-line-init : goal.loop-line-init

@@ -2,7 +2,7 @@ use Rattle.std.proofs.Common.{◌≡◌, length}
 use Rattle.std.specs.Prelude.{All}
 use Rattle.sis_script.specs.Script.{IsBuilt}
 use Rattle.sis_cli.specs.Session.{MayRun}
-use Rattle.sis_cli.proofs.InOrder.{Ordered}
+use Rattle.sis_model.proofs.Ordering.{Ordered}
 use Rattle.sis_cli.proofs.running.in_reverse_order.Given as goal
 
 -- the lines taken so far are ordered, and the others may still be run

@@ -1,4 +1,4 @@
-use Rattle.sis_cli.proofs.Stopping.{stops_tried}
+use Rattle.sis_volume.proofs.Stopping.{stops_tried}
 use Rattle.sis_cli.proofs.session.end.Goals as goal
 
 pub returns-in-Ok-clause-stops : goal.returns-in-Ok-clause-stops

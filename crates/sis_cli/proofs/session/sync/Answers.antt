@@ -1,4 +1,4 @@
-use Rattle.sis_cli.proofs.Stopping.{stops_tried}
+use Rattle.sis_volume.proofs.Stopping.{stops_tried}
 use Rattle.sis_cli.proofs.session.sync.Goals as goal
 
 pub returns-clause-stops : goal.returns-clause-stops
