@@ -4,18 +4,17 @@
 //! `run` of `sis_cli`, whose contract says what it does.
 #![tactic(auto)]
 
-ghost use Rattle.std.specs.Prelude.{IfSome};
-ghost use Rattle.sis_disk.specs.Layout.{IsLayout};
+mod argument;
+mod image;
+mod streams;
 
+use argument::arguments;
+use image::open_image;
 use sis_cli::{Exit, Plan, plan, run};
-use sis_disk::{ImageFile, RandomGuids, StdSink, StdSource};
+use sis_disk::{RandomGuids, StdSink, StdSource};
 use std::alloc::{AllocError, Global};
-use std::fs::{File, OpenOptions};
 use std::process::ExitCode;
-use std::{env, io};
-
-/// The length of a block of an image, in bytes.
-const BLOCK_LEN: u64 = 4096;
+use streams::{hold_descriptors, may_be_standard_error};
 
 /// The status where the image file can be neither opened nor made.
 const NOT_OPENED: u8 = 11;
@@ -28,45 +27,6 @@ fn words_of(alloc: Global, arguments: &[String]) -> Result<Vec<&str>, AllocError
     Ok(words)
 }
 
-// The arguments after the program's own name.
-fn arguments(rt: &HostRuntime) -> io::Result<Vec<String>> {
-    let arguments = env::args(rt)?.skip(1).collect(rt.alloc())?;
-    Ok(arguments)
-}
-
-fn open_file(rt: &HostRuntime, path: &str) -> io::Result<File> {
-    OpenOptions::new().read(true).write(true).open(rt, path)
-}
-
-// A new file of this length, all zeros.
-fn make_file(rt: &HostRuntime, path: &str, len: u64) -> io::Result<File> {
-    let file = OpenOptions::new()
-        .read(true)
-        .write(true)
-        .create_new(true)
-        .open(rt, path)?;
-    // Where this fails, the empty file stays: a later `format` finds its length wrong.
-    file.set_len(len)?;
-    Ok(file)
-}
-
-// The image file, which `format` makes where there is none.
-//
-// A file that is there keeps its length and its bytes, also for `format`: where it has another
-// length than the image, `run` refuses it, so a file that isn't meant isn't cut.
-fn open_image(rt: &HostRuntime, plan: &Plan) -> io::Result<ImageFile<File>>
-    requires { IfSome plan.now.layout IsLayout }
-{
-    let path = plan.image.as_str();
-    let file = match (open_file(rt, path), plan.layout) {
-        (Err(error), Some(layout)) if error.kind() == io::ErrorKind::NotFound => {
-            make_file(rt, path, BLOCK_LEN * layout.total)?
-        }
-        (opened, _) => opened?,
-    };
-    ImageFile::new(file)
-}
-
 // Prints the fault line where the run didn't end well. A line that can't be printed is lost.
 fn ended(rt: &HostRuntime, exit: &Exit) -> ExitCode {
     if *exit != Exit::Done {
@@ -75,29 +35,36 @@ fn ended(rt: &HostRuntime, exit: &Exit) -> ExitCode {
     ExitCode::from(exit.status())
 }
 
-fn main(rt: HostRuntime) -> io::Result<ExitCode> {
+// Prints the fault line, unless that were to write over the image.
+fn not_opened(rt: &HostRuntime, plan: &Plan) -> ExitCode {
+    if !may_be_standard_error(rt, plan.image.as_str()) {
+        let _ = eprintln!(rt; "sis: open");
+    }
+    ExitCode::from(NOT_OPENED)
+}
+
+fn main(rt: HostRuntime) -> ExitCode {
     let alloc = rt.alloc();
-    let arguments = match arguments(&rt) {
-        Ok(arguments) => arguments,
-        Err(error) if error.kind() == io::ErrorKind::OutOfMemory => {
-            return Ok(ended(&rt, &Exit::Memory));
-        }
-        Err(error) => return Err(error),
+    let Ok(arguments) = arguments(&rt) else {
+        return ended(&rt, &Exit::Memory);
     };
     let Ok(words) = words_of(alloc, &arguments) else {
-        return Ok(ended(&rt, &Exit::Memory));
+        return ended(&rt, &Exit::Memory);
     };
     let plan = match plan(alloc, &words) {
         Ok(plan) => plan,
-        Err(fault) => return Ok(ended(&rt, &Exit::from(fault))),
+        Err(fault) => return ended(&rt, &Exit::from(fault)),
+    };
+    // Held to the end: else the image could be opened as standard output, and be printed over.
+    let Ok(_held) = hold_descriptors(&rt) else {
+        return not_opened(&rt, &plan);
     };
     let Ok(disk) = open_image(&rt, &plan) else {
-        let _ = eprintln!(&rt; "sis: open");
-        return Ok(ExitCode::from(NOT_OPENED));
+        return not_opened(&rt, &plan);
     };
     let mut input = StdSource::new(rt.stdin());
     let mut out = StdSink::new(rt.stdout());
     let guids = RandomGuids::new(&rt);
     let outcome = run(alloc, &words, disk, &mut input, &mut out, guids);
-    Ok(ended(&rt, &outcome.status))
+    ended(&rt, &outcome.status)
 }
