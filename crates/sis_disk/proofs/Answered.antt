@@ -3,7 +3,7 @@ use Rattle.std.proofs.Common.{◌≡◌, inl, inr, ℕ, ◌+◌, ◌≤◌, Bool
 use Rattle.std.specs.Prelude.{Result, Ok, Err, IsErr}
 use Rattle.sis_disk.specs.Record.{Call, Reads, Writes, Syncs, DiskRecord, Seen, Made, Went, after, state_of, live_bytes}
 use Rattle.sis_disk.specs.Memory.{MemoryView, Answers, Enters, seen_of}
-use Rattle.sis_disk.proofs.Counts.{raised_later, raised_rose}
+use Rattle.sis_disk.proofs.Counts.{raised_later, raised_once, raised_rose}
 use Rattle.sis_disk.proofs.Laid.{length-laid}
 use Rattle.sis_disk.proofs.Push.{live_with}
 
@@ -24,6 +24,8 @@ went call cost (Ok x) old new same a = record {
   size = size_after (call true) cost old new (same true) a.ok.1;
   faults = omega (arith, a.ok.2);
   cause = tt;
+  once = tt;
+  quiet = a.ok.2;
   ok = made (call true) cost old new a.ok.1;
   err = tt;
 }
@@ -34,6 +36,8 @@ went call cost (Err e) old new same a = record {
   ];
   faults = rw a.fault (raised_later old.faults);
   cause = rw a.fault (raised_rose old.faults);
+  once = rw a.fault (raised_once old.faults);
+  quiet = tt;
   ok = tt;
   err = elim a.err [
     | inl entered ↦ inl (made (call false) cost old new entered.1)
@@ -61,4 +65,4 @@ went_sync cost result old new a = went Syncs cost result old new same a
 -- a call with another error went the same way
 pub went_err : {T E D : Type 0} (call : Bool → Call) (e : D) (result : Result T E) (old new : Seen) → IsErr result → Went {T = T} call (Err e) old new → Went call result old new
 went_err call e (Ok x) old new is_err w = absurd (cc)
-went_err call e (Err d) old new is_err w = record { size = w.size; faults = w.faults; cause = w.cause; ok = tt; err = w.err }
+went_err call e (Err d) old new is_err w = record { size = w.size; faults = w.faults; cause = w.cause; once = w.once; quiet = tt; ok = tt; err = w.err }

@@ -13,3 +13,6 @@ raised_later n = grind (arith, nat_tests)
 
 pub raised_rose : (n : ℕ) → Rose n (raised n)
 raised_rose n = grind (arith, nat_tests)
+
+pub raised_once : (n : ℕ) → raised n ≤ n + 1
+raised_once n = grind (arith, nat_tests)

@@ -90,12 +90,15 @@ pub record NotMade (old new : Seen) : Type 0 where
   pub calls : new.calls ≡ old.calls
   pub told : new.told ≡ old.told
 
--- What a call leaves. Given whether it succeeded, `call` is the call. A refused call fails.
+-- What a call leaves. Given whether it succeeded, `call` is the call. A refused call fails. The count
+-- of faults rises by one for a call that fails, and for no other.
 pub record Went {T E : Type 0} (call : Bool → Call) (result : Result T E)
     (old new : Seen) : Type 0 where
   pub size : new.size ≡ old.size
   pub faults : old.faults ≤ new.faults
   pub cause : OnErr result (Rose old.faults new.faults)
+  pub once : OnErr result (new.faults ≤ old.faults + 1)
+  pub quiet : OnOk result (new.faults ≡ old.faults)
   pub ok : OnOk result (Made (call true) old new)
   pub err : OnErr result (Made (call false) old new ⊎ NotMade old new)
 

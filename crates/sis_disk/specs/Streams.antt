@@ -1,11 +1,13 @@
 -- What a source takes, what is written to a sink, and what a count of faults says of an answer.
-use Rattle.std.specs.Prelude.{◌≡◌, ℕ, ◌≤◌, ◌++◌, List, [], Option, None, Some, Result, OnErr, ⊤}
+use Rattle.std.specs.Prelude.{◌≡◌, ℕ, ◌+◌, ◌≤◌, ◌++◌, List, [], Option, None, Some, Result, OnErr, OnOk, ⊤}
 use Rattle.sis_disk.specs.Record.{Rose}
 
--- an error comes only with a fault
+-- an error comes only with a fault, and each fault with an error
 pub record HasCause {T E : Type 0} (before now : ℕ) (result : Result T E) : Type 0 where
   pub later : before ≤ now
   pub failed : OnErr result (Rose before now)
+  pub once : OnErr result (now ≤ before + 1)
+  pub quiet : OnOk result (now ≡ before)
 
 -- Where a source tells what it has left, a read takes the next bytes, and none only at the end.
 abbrev pub Takes : Option (List ℕ) → Option (List ℕ) → List ℕ → Type 0

@@ -1,5 +1,6 @@
 //! A disk over an opened file. It tells nothing of the file's bytes, which may be anything.
-ghost use Rattle.std.specs.Prelude.{◌≡◌, ◌+◌, None, IfOk, OnOk, OnErr};
+ghost use Rattle.std.specs.Prelude.{◌≡◌, ◌⊎◌, ◌+◌, ◌-◌, ◌^◌, ◌≤◌, length, None, false, true, is_err, IfOk, OnOk, OnErr};
+ghost use Rattle.sis_disk.specs.Record.{Reads, Writes, Syncs, Went};
 ghost use Rattle.sis_disk.specs.Failing.{raised};
 
 use crate::{Disk, DiskFault};
@@ -14,7 +15,7 @@ use std::os::unix::fs::FileExt;
 /// without it.
 ///
 /// It is part of what is trusted: no clause says which bytes a file gives, nor that a sync makes
-/// them stable.
+/// them stable. That a sync behind one that failed is refused has clauses.
 #[derive(Drop)]
 pub struct ImageFile<F: FileExt + OpenFile + Drop> {
     file: F,
@@ -29,6 +30,7 @@ impl<F: FileExt + OpenFile + Drop> ImageFile<F> {
     pub fn new(file: F) -> io::Result<ImageFile<F>>
         ensures calls { IfOk result (λ disk. disk.calls ≡ 0) }
         ensures faults { IfOk result (λ disk. disk.faults ≡ 0) }
+        ensures syncs { IfOk result (λ disk. disk.sync_failed ≡ false) }
     {
         let size = file.metadata()?.len();
         Ok(ImageFile {
@@ -51,8 +53,8 @@ impl<F: FileExt + OpenFile + Drop> ImageFile<F> {
     // Counts a call, and refuses it where no number is left for it.
     fn begin(&mut self) -> Result<(), DiskFault>
         ensures ok { OnOk result (self.new ≡ record self.old { calls = self.old.calls + 1 }) }
-        ensures err { OnErr result
-            (self.new ≡ record self.old { faults = raised self.old.faults }) }
+        ensures err { OnErr result (self.new ≡ record self.old { faults = raised self.old.faults }) }
+        ensures last { OnErr result (self.old.calls ≡ 2 ^ 64 - 1) }
     {
         if self.calls == u64::MAX {
             return Err(self.fault());
@@ -92,28 +94,88 @@ impl<F: FileExt + OpenFile + Drop> Disk for ImageFile<F> {
         self.faults
     }
 
-    #[tactic(auto, using(crate::proofs::Counts::raised_later, crate::proofs::Counts::raised_rose))]
-    fn read(&mut self, at: u64, into: &mut [u8]) -> Result<(), DiskFault> {
+    #[tactic(auto, using(crate::proofs::Counts::raised_later, crate::proofs::Counts::raised_once, crate::proofs::Counts::raised_rose))]
+    fn read(&mut self, at: u64, into: &mut [u8]) -> Result<(), DiskFault>
+        requires { at + length into.old ≤ self.old.size }
+        ensures call { Went (Reads at (length into.old)) result
+            (record {
+              size = self.old.size;
+              calls = self.old.calls;
+              faults = self.old.faults;
+              told = None;
+            })
+            (record {
+              size = self.new.size;
+              calls = self.new.calls;
+              faults = self.new.faults;
+              told = None;
+            }) }
+        // It is refused only where no number is left for it.
+        ensures made { OnErr result ((self.old.calls ≡ 2 ^ 64 - 1)
+            ⊎ (self.new.calls ≡ self.old.calls + 1)) }
+        ensures syncs { self.new.sync_failed ≡ self.old.sync_failed }
+    {
         self.begin()?;
         let outcome = self.file.read_exact_at(into, at);
         self.end(outcome)
     }
 
-    #[tactic(auto, using(crate::proofs::Counts::raised_later, crate::proofs::Counts::raised_rose))]
-    fn write(&mut self, at: u64, bytes: &[u8]) -> Result<(), DiskFault> {
+    #[tactic(auto, using(crate::proofs::Counts::raised_later, crate::proofs::Counts::raised_once, crate::proofs::Counts::raised_rose))]
+    fn write(&mut self, at: u64, bytes: &[u8]) -> Result<(), DiskFault>
+        requires { at + length bytes.now ≤ self.old.size }
+        ensures call { Went (Writes at bytes.now) result
+            (record {
+              size = self.old.size;
+              calls = self.old.calls;
+              faults = self.old.faults;
+              told = None;
+            })
+            (record {
+              size = self.new.size;
+              calls = self.new.calls;
+              faults = self.new.faults;
+              told = None;
+            }) }
+        // It is refused only where no number is left for it.
+        ensures made { OnErr result ((self.old.calls ≡ 2 ^ 64 - 1)
+            ⊎ (self.new.calls ≡ self.old.calls + 1)) }
+        ensures syncs { self.new.sync_failed ≡ self.old.sync_failed }
+    {
         self.begin()?;
         let outcome = self.file.write_all_at(bytes, at);
         self.end(outcome)
     }
 
-    #[tactic(auto, using(crate::proofs::Counts::raised_later, crate::proofs::Counts::raised_rose))]
-    fn sync(&mut self) -> Result<(), DiskFault> {
+    #[tactic(auto, using(crate::proofs::Counts::raised_later, crate::proofs::Counts::raised_once, crate::proofs::Counts::raised_rose))]
+    fn sync(&mut self) -> Result<(), DiskFault>
+        ensures call { Went Syncs result
+            (record {
+              size = self.old.size;
+              calls = self.old.calls;
+              faults = self.old.faults;
+              told = None;
+            })
+            (record {
+              size = self.new.size;
+              calls = self.new.calls;
+              faults = self.new.faults;
+              told = None;
+            }) }
+        // Behind one that failed it is refused. One that is made and fails is noted.
+        ensures refused { self.old.sync_failed ≡ true → (is_err result ≡ true)
+            × (self.new ≡ record self.old { faults = raised self.old.faults }) }
+        ensures noted { OnErr result ((self.old.calls ≡ 2 ^ 64 - 1)
+            ⊎ (self.new.sync_failed ≡ true)) }
+        ensures ok { OnOk result (self.new.sync_failed ≡ false) }
+    {
         if self.sync_failed {
             return Err(self.fault());
         }
         self.begin()?;
-        let outcome = self.file.sync_data();
-        self.sync_failed = outcome.is_err();
-        self.end(outcome)
+        if self.file.sync_data().is_err() {
+            self.sync_failed = true;
+            return Err(self.fault());
+        }
+        Ok(())
     }
 }
