@@ -236,14 +236,15 @@ module _ (l : Layout) (is : IsLayout l) where
 
   -- ---- what neither of them touches
 
-  laid_keeps : (second : Bool) (at : ℕ) (bytes live : List ℕ) → length live ≡ 4096 * l.total → 4096 ≤ at → at + length bytes ≤ 4096 * first_place l
-      → (at + length bytes ≤ area_start l second) ⊎ (area_start l second + 4096 * l.area ≤ at) → KeepsRest l second live (laid live at bytes)
-  laid_keeps second at bytes live size low high apart =
+  laid_keeps : (second : Bool) (at : ℕ) (bytes live : List ℕ) → length live ≡ 4096 * l.total → 4096 ≤ at → (at + length bytes ≤ 4097) ⊎ (8192 ≤ at)
+      → at + length bytes ≤ 4096 * first_place l → (at + length bytes ≤ area_start l second) ⊎ (area_start l second + 4096 * l.area ≤ at) → KeepsRest l second live (laid live at bytes)
+  laid_keeps second at bytes live size low selector high apart =
       let some = is.has_data in
       let within : at + length bytes ≤ length live = omega arith in
       record {
         size = length-laid at bytes live within;
         first_block = take-laid_below live at bytes 4096 within low;
+        behind_selector = slice-laid_out live at bytes 4097 8192 within (turned selector);
         area = slice-laid_out live at bytes (area_start l second) (area_start l second + 4096 * l.area) within (turned apart);
         blocks = drop-laid_above live at bytes (4096 * first_place l) within high;
       }
@@ -252,14 +253,14 @@ module _ (l : Layout) (is : IsLayout l) where
       turned (inl a) = inr a
       turned (inr b) = inl b
 
-  some_keeps : (second : Bool) (at : ℕ) (bytes : List ℕ) (live : Option (List ℕ)) → IfSome live (λ now. length now ≡ 4096 * l.total) → 4096 ≤ at → at + length bytes ≤ 4096 * first_place l
-      → (at + length bytes ≤ area_start l second) ⊎ (area_start l second + 4096 * l.area ≤ at) → Both (KeepsRest l second) live (option_map (λ now. laid now at bytes) live)
-  some_keeps second at bytes None size low high apart = tt
-  some_keeps second at bytes (Some live) size low high apart = laid_keeps second at bytes live size low high apart
+  some_keeps : (second : Bool) (at : ℕ) (bytes : List ℕ) (live : Option (List ℕ)) → IfSome live (λ now. length now ≡ 4096 * l.total) → 4096 ≤ at → (at + length bytes ≤ 4097) ⊎ (8192 ≤ at)
+      → at + length bytes ≤ 4096 * first_place l → (at + length bytes ≤ area_start l second) ⊎ (area_start l second + 4096 * l.area ≤ at) → Both (KeepsRest l second) live (option_map (λ now. laid now at bytes) live)
+  some_keeps second at bytes None size low selector high apart = tt
+  some_keeps second at bytes (Some live) size low selector high apart = laid_keeps second at bytes live size low selector high apart
 
   pub rest_refl : (second : Bool) (live : Option (List ℕ)) → Both (KeepsRest l second) live live
   rest_refl second None = tt
-  rest_refl second (Some live) = record { size = refl; first_block = refl; area = refl; blocks = refl }
+  rest_refl second (Some live) = record { size = refl; first_block = refl; behind_selector = refl; area = refl; blocks = refl }
 
   pub rest_trans : (second : Bool) (a b c : Option (List ℕ)) → Both (KeepsRest l second) a b → Both (KeepsRest l second) b c → Both (KeepsRest l second) a c
   rest_trans second None None c one two = two
@@ -267,15 +268,21 @@ module _ (l : Layout) (is : IsLayout l) where
   rest_trans second (Some a) None c one two = absurd one
   rest_trans second (Some a) (Some b) None one two = two
   rest_trans second (Some a) (Some b) (Some c) one two =
-      record { size = two.size ∙ one.size; first_block = two.first_block ∙ one.first_block; area = two.area ∙ one.area; blocks = two.blocks ∙ one.blocks }
+      record {
+        size = two.size ∙ one.size;
+        first_block = two.first_block ∙ one.first_block;
+        behind_selector = two.behind_selector ∙ one.behind_selector;
+        area = two.area ∙ one.area;
+        blocks = two.blocks ∙ one.blocks;
+      }
 
   stable_keeps : {T E : Type 0} (second : Bool) (at : ℕ) (bytes : List ℕ) (result : Result T E) (was now : Seen) → WritesStable at bytes result was now
-      → IfSome was.told (λ r. length (live_bytes r) ≡ was.size) → was.size ≡ 4096 * l.total → 4096 ≤ at → at + length bytes ≤ 4096 * first_place l
-      → (at + length bytes ≤ area_start l second) ⊎ (area_start l second + 4096 * l.area ≤ at) → Both (KeepsRest l second) (live_of was) (live_of now)
-  stable_keeps second at bytes result was now went sized size low high apart = elim (live_stable at bytes result was now went) [
+      → IfSome was.told (λ r. length (live_bytes r) ≡ was.size) → was.size ≡ 4096 * l.total → 4096 ≤ at → (at + length bytes ≤ 4097) ⊎ (8192 ≤ at)
+      → at + length bytes ≤ 4096 * first_place l → (at + length bytes ≤ area_start l second) ⊎ (area_start l second + 4096 * l.area ≤ at) → Both (KeepsRest l second) (live_of was) (live_of now)
+  stable_keeps second at bytes result was now went sized size low selector high apart = elim (live_stable at bytes result was now went) [
     | inl same ↦ subst (λ (o : Option (List ℕ)). Both (KeepsRest l second) (live_of was) o) (sym same) (rest_refl second (live_of was))
     | inr wrote ↦ subst (λ (o : Option (List ℕ)). Both (KeepsRest l second) (live_of was) o) (sym wrote)
-        (some_keeps second at bytes (live_of was) (subst (λ (k : ℕ). IfSome (live_of was) (λ now. length now ≡ k)) size (live_sized was.told was.size sized)) low high apart)
+        (some_keeps second at bytes (live_of was) (subst (λ (k : ℕ). IfSome (live_of was) (λ now. length now ≡ k)) size (live_sized was.told was.size sized)) low selector high apart)
   ]
 
   pub area_rest : {T E : Type 0} (second : Bool) (bytes : List ℕ) (result : Result T E) (was now : Seen) → length bytes ≤ 4096 * l.area → WritesStable (area_start l (not second)) bytes result was now
@@ -283,10 +290,10 @@ module _ (l : Layout) (is : IsLayout l) where
   area_rest second bytes result was now small went sized size =
       let low = area_low l (not second) in
       let end = area_end l (not second) (length bytes) small in
-      stable_keeps second (area_start l (not second)) bytes result was now went sized size (omega arith) (omega arith) (areas_apart second (length bytes) (4096 * l.area) small (omega arith))
+      stable_keeps second (area_start l (not second)) bytes result was now went sized size (omega arith) (inr (omega arith)) (omega arith) (areas_apart second (length bytes) (4096 * l.area) small (omega arith))
 
   pub selector_rest : {T E : Type 0} (second : Bool) (byte : ℕ) (result : Result T E) (was now : Seen) → WritesStable 4096 (byte ∷ []) result was now
       → IfSome was.told (λ r. length (live_bytes r) ≡ was.size) → was.size ≡ 4096 * l.total → Both (KeepsRest l second) (live_of was) (live_of now)
   selector_rest second byte result was now went sized size =
       let low = area_low l second in
-      stable_keeps second 4096 (byte ∷ []) result was now went sized size (omega arith) (omega arith) (inl (omega arith))
+      stable_keeps second 4096 (byte ∷ []) result was now went sized size (omega arith) (inl (omega arith)) (omega arith) (inl (omega arith))

@@ -1,9 +1,9 @@
 -- The text that was read is the one that the image holds, and the other way round.
-use Rattle.std.proofs.Common.{◌≡◌, ℕ, zero, suc, ◌+◌, ◌-◌, ◌*◌, ◌≤◌, Bool, false, List, [], ◌∷◌, ◌++◌, length, take, drop, slice_index, Option, None, Some, refl, sym, ap, ap₂, subst, ◌∙◌, arith, append_assoc, take-add, length-append}
+use Rattle.std.proofs.Common.{◌≡◌, ℕ, ◌+◌, ◌-◌, ◌*◌, ◌≤◌, Bool, false, List, [], ◌++◌, length, take, drop, slice_index, Option, None, Some, refl, sym, ap, ap₂, subst, ◌∙◌, arith, append_assoc}
 use Rattle.std.specs.Prelude.{IfSome, Result, Ok, nat_lt, ◌==◌, slice_range}
 use Rattle.std.specs.Option.{option_map}
 use Rattle.std.proofs.lemmas.Bool.{le-ltb}
-use Rattle.std.proofs.lemmas.List.{take-take, take_at, drop_at, drop-drop, take-append-drop, length-take-le, length-drop}
+use Rattle.std.proofs.lemmas.List.{take_at, drop_at, drop-drop, take-append-drop}
 use Rattle.byteorder.specs.Endian.{little_bytes, little_number}
 use Rattle.byteorder.specs.Numbers.{little_number-reads_back, length-bytes_low_first}
 use Rattle.sis_disk.specs.declared.layout.ImageKind.TheVariants as kind
@@ -14,8 +14,6 @@ use Rattle.sis_disk.specs.Record.{DiskRecord, Seen, is_loose, live_of, live_byte
 use Rattle.sis_disk.specs.Stops.{Now}
 use Rattle.sis_disk.specs.Superblock.{ImageFault, superblock, superblock_at}
 use Rattle.sis_reading.specs.Steps.{◌>>=◌, guard}
-use Rattle.sis_disk.proofs.Areas.{length-area_bytes}
-use Rattle.sis_disk.proofs.Bytes.{IsBytes, IsBytes-drop, bytes_again}
 use Rattle.sis_journal.specs.Texts.{HoldsText, KeepsText}
 use Rattle.sis_journal.proofs.Readings.{moved, selected_is}
 use Rattle.sis_journal.proofs.SuperblockLaws.{superblock_at-only}

@@ -1,6 +1,6 @@
 -- A new image holds its text.
-use Rattle.std.proofs.Common.{◌≡◌, ℕ, ◌+◌, ◌-◌, ◌*◌, ◌≤◌, true, List, [], ◌++◌, length, take, drop, replicate, slice_index, Option, Some, None, refl, sym, ap, ap₂, ◌∙◌, subst, arith, append_assoc, length-append}
-use Rattle.std.specs.Prelude.{IfSome, ◌==◌, slice_range}
+use Rattle.std.proofs.Common.{◌≡◌, ◌⊎◌, inl, inr, ℕ, ◌+◌, ◌-◌, ◌*◌, ◌≤◌, true, List, [], ◌++◌, length, take, drop, replicate, slice_index, Option, Some, None, refl, sym, ap, ap₂, ◌∙◌, subst, arith, append_assoc, length-append}
+use Rattle.std.specs.Prelude.{IfSome, ◌==◌, slice_range, Result}
 use Rattle.std.specs.Int.{next_multiple_of}
 use Rattle.std.specs.Option.{option_map}
 use Rattle.std.proofs.lemmas.List.{take_all, take_at, drop_at, length-replicate, get_or-append_right, get_or_append_left, get_or-replicate}
@@ -16,7 +16,8 @@ use Rattle.sis_disk.proofs.Laid.{length-laid}
 use Rattle.sis_journal.specs.Formatting.{new_blocks, padded}
 use Rattle.sis_journal.specs.Texts.{HoldsText}
 use Rattle.sis_journal.proofs.Readings.{live_sized}
-use Rattle.sis_journal.proofs.StableWrites.{live_written, now_stable}
+use Rattle.sis_journal.specs.Inside.{WritesStable}
+use Rattle.sis_journal.proofs.StableWrites.{live_stable, live_written, now_stable}
 
 -- ---- lengths
 
@@ -143,3 +144,28 @@ new_live l text bytes old mid new is made synced =
 -- nothing is loose
 pub new_stable : (bytes : List ℕ) (old mid new : Seen) → Made (Writes 0 bytes true) old mid → Made (Syncs true) mid new → Now (λ s. s.loose ≡ []) new
 new_stable bytes old mid new made synced = now_stable (λ s. s.loose ≡ []) 0 bytes old mid new made synced (λ r told. refl)
+
+drop_laid : (bytes live : List ℕ) → drop (length bytes) (laid live 0 bytes) ≡ drop (length bytes) live
+drop_laid bytes live =
+    let same : 0 + length bytes ≡ length bytes = omega arith in
+    drop_at bytes (drop (0 + length bytes) live) (length bytes) refl ∙ ap (λ (n : ℕ). drop n live) same
+
+rest_laid : (bytes : List ℕ) (live : Option (List ℕ)) → option_map (drop (length bytes)) (option_map (λ m. laid m 0 bytes) live) ≡ option_map (drop (length bytes)) live
+rest_laid bytes None = refl
+rest_laid bytes (Some live) = ap Some (drop_laid bytes live)
+
+-- the bytes behind them are the old ones, also where the write or the sync failed
+pub new_rest : {T E : Type 0} (l : Layout) (text bytes : List ℕ) (result : Result T E) (old new : Seen) → bytes ≡ new_blocks l text → WritesStable 0 bytes result old new
+    → option_map (drop (length (new_blocks l text))) (live_of new) ≡ option_map (drop (length (new_blocks l text))) (live_of old)
+new_rest l text bytes result old new is w =
+    subst (λ (xs : List ℕ). option_map (drop (length xs)) (live_of new) ≡ option_map (drop (length xs)) (live_of old)) is
+    (elim (live_stable 0 bytes result old new w) [
+      | inl same ↦ ap (option_map (drop (length bytes))) same
+      | inr wrote ↦ ap (option_map (drop (length bytes))) wrote ∙ rest_laid bytes (live_of old)
+    ])
+
+-- none of the bytes has changed, or the new ones were laid
+pub new_either : {T E : Type 0} (l : Layout) (text bytes : List ℕ) (result : Result T E) (old new : Seen) → bytes ≡ new_blocks l text → WritesStable 0 bytes result old new
+    → (live_of new ≡ live_of old) ⊎ (live_of new ≡ option_map (λ live. laid live 0 (new_blocks l text)) (live_of old))
+new_either l text bytes result old new is w =
+    subst (λ (xs : List ℕ). (live_of new ≡ live_of old) ⊎ (live_of new ≡ option_map (λ live. laid live 0 xs) (live_of old))) is (live_stable 0 bytes result old new w)

@@ -1,6 +1,6 @@
 -- What the bytes of an image say, piece by piece and as a whole.
 use Rattle.std.specs.Result.{IsErrAnd}
-use Rattle.std.proofs.Common.{◌≡◌, ℕ, ◌+◌, ◌-◌, ◌*◌, ◌<◌, ◌≤◌, Bool, true, false, List, ◌++◌, length, take, drop, slice_index, Option, Some, None, refl, sym, ap, ap₂, subst, ◌∙◌, arith, take-add}
+use Rattle.std.proofs.Common.{◌≡◌, ℕ, ◌+◌, ◌-◌, ◌<◌, ◌≤◌, Bool, List, ◌++◌, length, take, drop, slice_index, Option, Some, None, refl, sym, ap, ap₂, subst, ◌∙◌, arith, take-add}
 use Rattle.std.specs.Prelude.{Result, Ok, Err, IfSome, IfErr, nat_lt, ◌==◌, slice_range}
 use Rattle.std.specs.Option.{option_map}
 use Rattle.std.proofs.lemmas.List.{take_all, drop-drop}
@@ -12,7 +12,7 @@ use Rattle.sis_disk.specs.declared.layout.Layout.{Layout}
 use Rattle.sis_disk.specs.Areas.{TextFault, area_bytes, area_start, read_by, selected_at, shifted, text_at}
 use Rattle.sis_disk.proofs.Areas.{length-area_bytes}
 use Rattle.sis_disk.proofs.Bytes.{IsBytes, bytes_again}
-use Rattle.sis_disk.specs.Layout.{IsLayout, table_cap}
+use Rattle.sis_disk.specs.Layout.{table_cap}
 use Rattle.sis_disk.specs.Record.{DiskRecord, live_bytes}
 use Rattle.sis_disk.specs.Superblock.{ImageFault, superblock_at}
 use Rattle.sis_reading.specs.Steps.{◌>>=◌, guard}

@@ -1,15 +1,11 @@
 -- Words that only private functions cite.
-use Rattle.std.specs.Prelude.{◌≡◌, ◌⊎◌, ℕ, ◌+◌, ◌≤◌, nat_lt, Bool, true, false, not, List, [], length, slice_range, Result, Ok, Err, ⊤}
+use Rattle.std.specs.Prelude.{◌≡◌, ◌⊎◌, ℕ, ◌+◌, ◌≤◌, Bool, true, false, not, List, [], length, slice_range, Result, Ok, Err, ⊤}
 use Rattle.std.specs.List.{AllByRecursion}
-use Rattle.byteorder.specs.Endian.{little_number}
-use Rattle.sis_disk.specs.declared.layout.ImageKind.TheVariants as kind
 use Rattle.sis_disk.specs.declared.layout.Layout.{Layout}
-use Rattle.sis_disk.specs.Areas.{TextFault, area_bytes, area_start, shifted}
+use Rattle.sis_disk.specs.Areas.{area_bytes, area_start}
 use Rattle.sis_disk.specs.Layout.{table_cap}
 use Rattle.sis_disk.specs.Record.{Call, Writes, Syncs, Made, NotMade, Seen, State, live_of}
 use Rattle.sis_disk.specs.Stops.{Elapses}
-use Rattle.sis_disk.specs.Superblock.{ImageFault}
-use Rattle.sis_reading.specs.Steps.{◌>>=◌, guard}
 use Rattle.sis_journal.specs.declared.fault.OpenFault.{OpenFault}
 use Rattle.sis_journal.specs.declared.fault.OpenFault.TheVariants as faults
 use Rattle.sis_journal.specs.Opening.{IsRead}

@@ -1,7 +1,7 @@
 -- What opening does to a disk, and what it answers.
-use Rattle.std.specs.Prelude.{◌≡◌, ℕ, ◌+◌, ◌≤◌, true, false, List, [], ◌∷◌, Option, Some, None, Result, Err, ⊤}
+use Rattle.std.specs.Prelude.{◌≡◌, ℕ, ◌+◌, ◌≤◌, true, false, List, [], ◌∷◌, Result, Err, ⊤}
 use Rattle.std.specs.List.{AllByRecursion}
-use Rattle.sis_disk.specs.Record.{Call, Reads, Writes, Syncs, DiskRecord, Seen, Rose, live_of}
+use Rattle.sis_disk.specs.Record.{Call, Reads, Writes, Syncs, Seen, Rose, live_of}
 use Rattle.sis_disk.specs.Stops.{Elapses, GoesOnBy}
 use Rattle.sis_disk.specs.Superblock.{ImageFault}
 use Rattle.sis_journal.specs.declared.fault.OpenFault.{OpenFault}

@@ -21,6 +21,9 @@ pub fn write_stable<D: Disk>(disk: &mut D, at: u64, bytes: &[u8]) -> Result<(), 
     ensures down { (first : ℕ) → at < first → IfErr result
         (λ fault. (call : ℕ) × (fault ≡ CommitFault.Down call)
         × GoesDown first call (D.seen disk.old) (D.seen disk.new)) }
+    ensures number { IfErr result (λ fault. (call : ℕ) × (fault ≡ CommitFault.Down call)
+        × (call < (D.seen disk.old).calls + 2)) }
+    ensures quiet { OnOk result ((D.seen disk.new).faults ≡ (D.seen disk.old).faults) }
     ensures elapses { Elapses (D.seen disk.old) (D.seen disk.new) }
     ensures calls { (D.seen disk.new).calls ≤ (D.seen disk.old).calls + 2 }
 {
@@ -60,6 +63,9 @@ pub fn write_area<D: Disk>(
     ensures down { IfErr result
         (λ fault. (call : ℕ) × (fault ≡ CommitFault.Down call)
         × GoesDown (first_byte layout.now) call (D.seen disk.old) (D.seen disk.new)) }
+    ensures number { IfErr result (λ fault. (call : ℕ) × (fault ≡ CommitFault.Down call)
+        × (call < (D.seen disk.old).calls + 2)) }
+    ensures quiet { OnOk result ((D.seen disk.new).faults ≡ (D.seen disk.old).faults) }
     ensures elapses { Elapses (D.seen disk.old) (D.seen disk.new) }
     ensures calls { (D.seen disk.new).calls ≤ (D.seen disk.old).calls + 2 }
 {
@@ -91,6 +97,9 @@ pub fn select_other<D: Disk>(disk: &mut D, layout: &Layout, second: bool) -> Res
     ensures down { IfErr result
         (λ fault. (call : ℕ) × (fault ≡ CommitFault.Down call)
         × GoesDown (first_byte layout.now) call (D.seen disk.old) (D.seen disk.new)) }
+    ensures number { IfErr result (λ fault. (call : ℕ) × (fault ≡ CommitFault.Down call)
+        × (call < (D.seen disk.old).calls + 2)) }
+    ensures quiet { OnOk result ((D.seen disk.new).faults ≡ (D.seen disk.old).faults) }
     ensures elapses { Elapses (D.seen disk.old) (D.seen disk.new) }
     ensures calls { (D.seen disk.new).calls ≤ (D.seen disk.old).calls + 2 }
 {

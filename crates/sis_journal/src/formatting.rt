@@ -1,5 +1,5 @@
 //! Makes a disk an image that keeps a value.
-ghost use Rattle.std.specs.Prelude.{◌≡◌, ◌+◌, ◌*◌, ◌≤◌, ◌++◌, [], length, vec_capacity, Err, IfOk, IfErr, IfSome, OnOk};
+ghost use Rattle.std.specs.Prelude.{◌≡◌, ◌⊎◌, ◌+◌, ◌*◌, ◌≤◌, ◌++◌, [], drop, length, vec_capacity, Err, IfOk, IfErr, IfSome, OnOk};
 ghost use Rattle.std.specs.Option.{option_map};
 ghost use Rattle.byteorder.specs.Endian.{little_bytes};
 ghost use Rattle.sis_disk.specs.Layout.{IsLayout, table_cap};
@@ -73,16 +73,26 @@ impl Journal {
         value: &K,
     ) -> Result<(), FormatFault>
         requires layout { IsLayout layout }
+        requires log { layout.log ≡ 0 }
         requires fits { length (K.text value.now) ≤ table_cap layout }
         // The disk holds the value, and a stop can't change that.
         ensures holds { OnOk result (IfSome (live_of (D.seen disk.new))
             (HoldsText layout (K.text value.now))) }
         ensures stable { OnOk result (Now (λ s. s.loose ≡ []) (D.seen disk.new)) }
         ensures synced { OnOk result (IfSome (D.seen disk.new).told EndsInSync) }
-        // These are its first bytes, and those behind them are the old ones.
+        // These are its first bytes, and those behind them are the old ones. Also after an error either
+        // these are the first ones, or no byte has changed.
         ensures bytes { OnOk result (live_of (D.seen disk.new)
             ≡ option_map (λ live. laid live 0 (new_blocks layout (K.text value.now)))
             (live_of (D.seen disk.old))) }
+        ensures either { (live_of (D.seen disk.new) ≡ live_of (D.seen disk.old))
+            ⊎ (live_of (D.seen disk.new)
+            ≡ option_map (λ live. laid live 0 (new_blocks layout (K.text value.now)))
+            (live_of (D.seen disk.old))) }
+        ensures rest { option_map (drop (length (new_blocks layout (K.text value.now))))
+            (live_of (D.seen disk.new))
+            ≡ option_map (drop (length (new_blocks layout (K.text value.now))))
+            (live_of (D.seen disk.old)) }
 
         // A disk of another length is refused, and nothing is written.
         ensures length { ¬ ((D.seen disk.old).size ≡ 4096 * layout.total)

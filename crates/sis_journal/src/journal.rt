@@ -1,5 +1,5 @@
 //! A journal: opened from a disk, and committed to it.
-ghost use Rattle.std.specs.Prelude.{◌≡◌, ℕ, ◌+◌, ◌*◌, ◌≤◌, [], List, Ok, Some, length, not, IfOk, IfErr, IfSome, IsErrOf, OnOk, OnErr};
+ghost use Rattle.std.specs.Prelude.{◌≡◌, ℕ, ◌+◌, ◌*◌, ◌<◌, ◌≤◌, [], List, Ok, Some, length, not, IfOk, IfErr, IfSome, IsErrOf, OnOk, OnErr};
 ghost use Rattle.sis_disk.specs.Areas.{read_by};
 ghost use Rattle.sis_disk.specs.Causes.{GoesDown, StaysUp};
 ghost use Rattle.sis_disk.specs.Layout.{IsLayout, first_byte, table_cap};
@@ -101,6 +101,7 @@ impl Journal {
         requires fits { length (K.text value.now) ≤ table_cap self.old.layout }
         ensures layout { self.new.layout ≡ self.old.layout }
         ensures ok { OnOk result (self.new.second ≡ not self.old.second) }
+        ensures err { OnErr result (self.new ≡ self.old) }
 
         // A stop before, within or after leaves the old value or the new one.
         ensures images { (r : DiskRecord) (old : List ℕ) → (D.seen disk.old).told ≡ Some r
@@ -115,13 +116,16 @@ impl Journal {
         ensures rest { Both (KeepsRest self.old.layout self.old.second)
             (live_of (D.seen disk.old)) (live_of (D.seen disk.new)) }
 
-        // Only the disk makes it fail. The fault names the first call that failed, or was refused, and
-        // no call follows it.
+        // Only the disk makes it fail. The fault names the first call that failed, or was refused: one
+        // of the four, which no made call follows.
         ensures up { OnOk result
             (StaysUp (first_byte self.old.layout) (D.seen disk.old) (D.seen disk.new)) }
         ensures down { IfErr result
             (λ fault. (call : ℕ) × (fault ≡ CommitFault.Down call)
             × GoesDown (first_byte self.old.layout) call (D.seen disk.old) (D.seen disk.new)) }
+        ensures number { IfErr result (λ fault. (call : ℕ) × (fault ≡ CommitFault.Down call)
+            × (call < (D.seen disk.old).calls + 4)) }
+        ensures quiet { OnOk result ((D.seen disk.new).faults ≡ (D.seen disk.old).faults) }
         ensures calls { (D.seen disk.new).calls ≤ (D.seen disk.old).calls + 4 }
         ensures elapses { Elapses (D.seen disk.old) (D.seen disk.new) }
     {

@@ -1,8 +1,7 @@
-use Rattle.std.proofs.Common.{◌≡◌, ◌∙◌, ◌*◌, ◌+◌, ◌≤◌, drop, arith}
-use Rattle.std.specs.Prelude.{IfSome, ◌==◌, slice_index, slice_range}
+use Rattle.std.proofs.Common.{◌≡◌, ◌∙◌, ◌+◌, drop, arith}
+use Rattle.std.specs.Prelude.{slice_range}
 use Rattle.byteorder.specs.Endian.{little_bytes, little_number}
 use Rattle.sis_disk.specs.Record.{live_of}
-use Rattle.sis_disk.proofs.Areas.{area_end}
 use Rattle.sis_journal.proofs.ReadCalls.{reads_then}
 use Rattle.sis_journal.proofs.Readings.{area_long, area_text, area_whole, moved}
 use Rattle.sis_journal.proofs.opening.read_area.Goals as goal

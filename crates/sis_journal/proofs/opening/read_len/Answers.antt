@@ -1,5 +1,5 @@
 use Rattle.sis_disk.specs.Record.{live_of}
-use Rattle.sis_journal.proofs.Readings.{spelled_read, stated_read}
+use Rattle.sis_journal.proofs.Readings.{spelled_read}
 use Rattle.sis_journal.proofs.opening.read_len.Goals as goal
 
 pub returns-clause-bytes : goal.returns-clause-bytes

@@ -1,4 +1,4 @@
-use Rattle.std.proofs.Common.{◌≡◌, ℕ, length, inl, ap, ◌∙◌, arith}
+use Rattle.std.proofs.Common.{◌≡◌, ℕ, ◌+◌, ◌<◌, length, inl, ap, ◌∙◌, arith}
 use Rattle.sis_disk.specs.Areas.{area_bytes}
 use Rattle.sis_disk.specs.Record.{live_of, state_of}
 use Rattle.sis_disk.specs.Causes.{GoesDown}
@@ -77,3 +77,18 @@ returns-in_err-select_other-clause-down g c = rw (← c.self.view_is) (
       up_down first down.0 old mid new c.write_area.ensures.elapses
           c.in_ok-write_area.ensures.up down.2,
     ))
+
+pub returns-in_err-write_area-clause-number : goal.returns-in_err-write_area-clause-number
+returns-in_err-write_area-clause-number g c =
+    let number = c.in_err-write_area.ensures.number in
+    passed_on c.from_residual.result c.in_err-write_area.field-0.0
+    (λ fault. (call : ℕ) × (fault ≡ Down call) × (call < (g.D.Disk.seen c.args.disk.now).calls + 4))
+    c.from_residual.ensures.1 (number.0, number.1, (let few = number.2 in omega arith))
+
+pub returns-in_err-select_other-clause-number : goal.returns-in_err-select_other-clause-number
+returns-in_err-select_other-clause-number g c =
+    let number = c.in_err-select_other.ensures.number in
+    let before = c.write_area.ensures.calls in
+    passed_on c.from_residual-in_err-select_other.result c.in_err-select_other.field-0.0
+    (λ fault. (call : ℕ) × (fault ≡ Down call) × (call < (g.D.Disk.seen c.args.disk.now).calls + 4))
+    c.from_residual-in_err-select_other.ensures.1 (number.0, number.1, (let few = number.2 in omega arith))
