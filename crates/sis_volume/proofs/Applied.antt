@@ -1,5 +1,5 @@
 -- What a volume keeps after edits of its table.
-use Rattle.std.proofs.Common.{◌≡◌, ℕ, ◌≤◌, Bool, true, false, ◌||◌, List, [], ◌∷◌, length, Option, refl, sym, ap, ◌∙◌, subst}
+use Rattle.std.proofs.Common.{◌≡◌, ℕ, ◌≤◌, Bool, false, ◌||◌, List, [], ◌∷◌, length, Option, refl, sym, ap, ◌∙◌, subst}
 use Rattle.sis_disk.specs.Layout.{first_place, data_blocks, table_cap}
 use Rattle.sis_disk.specs.Record.{Seen}
 use Rattle.sis_disk.specs.declared.layout.Layout.{Layout}

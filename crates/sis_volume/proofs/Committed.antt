@@ -4,7 +4,7 @@ use Rattle.std.specs.Prelude.{IfSome, slice_range}
 use Rattle.std.specs.Option.{option_map}
 use Rattle.std.proofs.lemmas.List.{drop-drop}
 use Rattle.sis_disk.specs.declared.layout.Layout.{Layout}
-use Rattle.sis_disk.specs.Layout.{first_place, table_cap}
+use Rattle.sis_disk.specs.Layout.{first_byte, first_place, table_cap}
 use Rattle.sis_disk.specs.Record.{DiskRecord, Seen, State, is_loose, live_bytes, live_of, state_of}
 use Rattle.sis_disk.specs.Stops.{IsFirm, Leaves, Now, Shows}
 use Rattle.sis_disk.proofs.Images.{leaves_weaker}
@@ -17,7 +17,7 @@ use Rattle.sis_table.specs.Good.{IsGood}
 use Rattle.sis_table.specs.Image.{Holds}
 use Rattle.sis_table.specs.Opens.{OpensAs}
 use Rattle.sis_table.specs.Spelling.{spelling}
-use Rattle.sis_table.specs.Volume.{VolumeTable, IsTable, is_used, used_places}
+use Rattle.sis_table.specs.Volume.{VolumeTable, IsTable, used_places}
 use Rattle.sis_table.proofs.ContentLemmas.{files_of-same}
 use Rattle.sis_table.proofs.PutLemmas.{is_used-between}
 use Rattle.sis_volume.specs.Invariant.{HasCommitted, IsCovered, IsVolume, KeepsTable}
@@ -197,3 +197,10 @@ kept-opened v j l held seen is is_j log size fits table used keeps stable = reco
         (keeps r told)) (stable r told);
   };
 }
+
+-- the data blocks stay as they are
+pub blocks-rest : (l : Layout) (second : Bool) (old new : Option (List ℕ)) → Both (KeepsRest l second) old new → option_map (drop (first_byte l)) new ≡ option_map (drop (first_byte l)) old
+blocks-rest l second None None both = refl
+blocks-rest l second None (Some new) both = absurd both
+blocks-rest l second (Some old) None both = absurd both
+blocks-rest l second (Some old) (Some new) both = ap Some both.blocks

@@ -1,5 +1,5 @@
 -- A new image holds the table without files.
-use Rattle.std.proofs.Common.{◌≡◌, ◌≤◌, List, ℕ, length, Option, Some, None, arith}
+use Rattle.std.proofs.Common.{◌≤◌, List, ℕ, length, Option, Some, None, arith}
 use Rattle.std.specs.Prelude.{Result, Ok, Err, OnOk, IfSome}
 use Rattle.sis_disk.specs.declared.layout.Layout.{Layout}
 use Rattle.sis_disk.specs.Layout.{IsLayout, table_cap}

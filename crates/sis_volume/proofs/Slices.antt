@@ -1,7 +1,8 @@
 -- Equal bytes at equal positions.
-use Rattle.std.proofs.Common.{◌≡◌, ℕ, ◌+◌, ◌-◌, ◌<◌, ◌≤◌, List, length, take, drop, slice_index, sym, ◌∙◌, arith, length-drop}
+use Rattle.std.proofs.Common.{◌≡◌, inl, inr, ℕ, ◌+◌, ◌-◌, ◌<◌, ◌≤◌, List, length, take, drop, slice_index, sym, ◌∙◌, arith, length-drop}
 use Rattle.std.specs.Prelude.{slice_range}
-use Rattle.std.proofs.lemmas.List.{ext_get_or, get_or-take, get_or-drop, length-take-le}
+use Rattle.std.proofs.lemmas.Bool.{cases_lt}
+use Rattle.std.proofs.lemmas.List.{ext_get_or, get_or-take, get_or-drop, length-take-le, take_all}
 
 index_slice : (xs : List ℕ) (a b i : ℕ) → b ≤ length xs → i < b - a → slice_index (slice_range xs a b) i ≡ slice_index xs (a + i)
 index_slice xs a b i le lt = get_or-take (b - a) (drop a xs) i 0 lt ∙ get_or-drop a xs i 0
@@ -26,3 +27,22 @@ take_same old new n size le same =
     ext_get_or 0 (take n new) (take n old) (omega arith) (λ i lt.
     let here : i < n = omega arith in
     get_or-take n new i 0 here ∙ same i here ∙ sym (get_or-take n old i 0 here))
+
+-- the same where the first n bytes may be all
+pub take_below : (old new : List ℕ) (n : ℕ) → length new ≡ length old
+    → ((i : ℕ) → i < length old → i < n → slice_index new i ≡ slice_index old i) → take n new ≡ take n old
+take_below old new n size same = elim (cases_lt (length old) n) [
+  | inl all ↦ (
+      let both : new ≡ old = ext_get_or 0 new old size (λ i lt. same i (omega arith) (omega arith)) in
+      take_all n new (omega arith) ∙ both ∙ sym (take_all n old (omega arith)))
+  | inr le ↦ take_same old new n size le (λ i lt. same i (omega arith) lt)
+]
+
+-- the same of a slice that may end behind all
+pub slice_below : (old new : List ℕ) (a b : ℕ) → length new ≡ length old
+    → ((i : ℕ) → i < length old → a ≤ i → i < b → slice_index new i ≡ slice_index old i) → slice_range new a b ≡ slice_range old a b
+slice_below old new a b size same =
+    let old_len = length-drop a old in
+    let new_len = length-drop a new in
+    take_below (drop a old) (drop a new) (b - a) (omega arith) (λ i lt below.
+    get_or-drop a new i 0 ∙ same (a + i) (omega arith) (omega arith) (omega arith) ∙ sym (get_or-drop a old i 0))

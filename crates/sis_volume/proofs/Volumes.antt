@@ -7,6 +7,7 @@ use Rattle.sis_disk.specs.Layout.{data_blocks, first_place}
 use Rattle.sis_disk.specs.Record.{DiskRecord, IsImage, Seen, State, live_bytes, live_of, state_of}
 use Rattle.sis_disk.specs.Stops.{GoesOn, Leaves, Now}
 use Rattle.sis_disk.proofs.Images.{leaves_weaker}
+use Rattle.sis_journal.specs.Committing.{Both}
 use Rattle.sis_journal.specs.Texts.{HoldsText}
 use Rattle.sis_journal.specs.View.{JournalView}
 use Rattle.sis_table.specs.Content.{files_of}
@@ -20,10 +21,11 @@ use Rattle.sis_table.proofs.ContentLemmas.{files_of-same}
 use Rattle.sis_table.proofs.PutLemmas.{get-used_places, is_used-between, length-used_places}
 use Rattle.sis_volume.specs.Keeping.{AgreesOut, KeepsOut, WritesSpare, is_spare}
 use Rattle.sis_volume.specs.Invariant.{HasCommitted, IsCovered, IsVolume, KeepsTable, is_held}
+use Rattle.sis_volume.specs.Staging.{KeepsOthers}
 use Rattle.sis_volume.specs.Stopping.{OnlyOpens}
 use Rattle.sis_volume.proofs.Fronts.{front-image, text-front, text-opens, text-read}
-use Rattle.sis_volume.proofs.Slices.{slice_same, take_same}
-use Rattle.sis_volume.proofs.Spared.{before_data, held_out, same_record}
+use Rattle.sis_volume.proofs.Slices.{slice_below, slice_same, take_below, take_same}
+use Rattle.sis_volume.proofs.Spared.{before_data, before_from, held_out, same_record}
 
 -- a record that is told has P where the disk tells this one
 pub now_of : (P : State → Type 0) (seen : Seen) (r : DiskRecord) → seen.told ≡ Some r → P (state_of r) → Now P seen
@@ -182,3 +184,29 @@ module _ (l : Layout) (held : List Bool) (from : ℕ) where
           let total = ap (λ (x : Layout). x.total) is in
           k.2.live i (omega arith) (covered_out v place i is covered used ge lt)))
           ∙ sym (ap (λ (o : Option DiskRecord). option_map (files_of v) (option_map live_bytes o)) e)
+
+  others_kept : (s t : State) → KeepsOut l held from s t → KeepsOthers l held from s.live t.live
+  others_kept s t out = record {
+    size = out.size;
+    areas = take_below s.live t.live (4096 * first_place l) out.size (λ i lt below. out.live i lt (before_data l held from i below));
+    front = take_below s.live t.live (4096 * from) out.size (λ i lt below. out.live i lt (before_from l held from i below));
+    blocks = λ place is. slice_below s.live t.live (4096 * place) (4096 * place + 4096) out.size (λ i lt ge below. out.live i lt (held_out l held from place i is ge below));
+  }
+
+  pub others_refl : (live : Option (List ℕ)) → Both (KeepsOthers l held from) live live
+  others_refl None = tt
+  others_refl (Some live) = record { size = refl; areas = refl; front = refl; blocks = λ place is. refl }
+
+  -- nothing changes before the data blocks, before the place `from`, nor at a held place
+  pub others-staged : (old new : Seen) → WritesSpare l held from old new → Both (KeepsOthers l held from) (live_of old) (live_of new)
+  others-staged old new writes = by_cases old.told refl
+    where
+      Kept : Option DiskRecord → Option DiskRecord → Type 0
+      Kept a b = Both (KeepsOthers l held from) (option_map live_bytes a) (option_map live_bytes b)
+
+      by_cases : (o : Option DiskRecord) → old.told ≡ o → Kept old.told new.told
+      by_cases None e = subst (λ (a : Option DiskRecord). Kept a new.told) (sym e) (subst (λ (b : Option DiskRecord). Kept None b) (sym (writes.untold e)) tt)
+      by_cases (Some r) e =
+          let k = writes.keeps r e in
+          subst (λ (a : Option DiskRecord). Kept a new.told) (sym e)
+          (subst (λ (b : Option DiskRecord). Kept (Some r) b) (sym k.1) (others_kept (state_of r) (state_of k.0) k.2))

@@ -1,15 +1,15 @@
 -- What staging writes, and where.
-use Rattle.std.specs.Prelude.{◌≡◌, ◌⊎◌, ℕ, ◌+◌, ◌<◌, ◌≤◌, Bool, false, List, [], ◌∷◌, ◌++◌, map, flat_map, Option, IfSome, ⊤}
+use Rattle.std.specs.Prelude.{◌≡◌, ◌⊎◌, ℕ, ◌+◌, ◌*◌, ◌<◌, ◌≤◌, Bool, false, true, List, [], ◌∷◌, ◌++◌, length, map, flat_map, take, Option, IfSome, ⊤}
 use Rattle.std.specs.List.{AllByRecursion}
 use Rattle.sis_disk.specs.declared.layout.Layout.{Layout}
 use Rattle.sis_disk.specs.Record.{Seen, Rose}
 use Rattle.sis_model.specs.declared.reply.Hindrance.{Hindrance}
 use Rattle.sis_model.specs.declared.reply.Hindrance.TheVariants as hindrance
-use Rattle.sis_disk.specs.Layout.{first_place}
+use Rattle.sis_disk.specs.Layout.{first_byte, first_place}
 use Rattle.sis_table.specs.Runs.{IsChain, place_end}
 use Rattle.sis_table.specs.Volume.{VolumeTable, is_used}
 use Rattle.sis_table.specs.Edits.{map_edit}
-use Rattle.sis_table.specs.Content.{run_bytes}
+use Rattle.sis_table.specs.Content.{block_at, run_bytes}
 use Rattle.sis_table.specs.declared.edit.Edit.{Edit}
 use Rattle.sis_table.specs.declared.edit.Edit.TheVariants as edit
 use Rattle.sis_table.specs.declared.runs.Run.{Run}
@@ -48,6 +48,13 @@ pub record Stages (v : VolumeView) (old new : TxnView) (file first blocks : ℕ)
   pub uncommitted : AllByRecursion (IsUnheld v.table.layout v.held) runs
   pub fresh : AllByRecursion (λ r. AllByRecursion (IsApart r) old.edits) runs
   pub written : IfSome live (λ now. flat_map (run_bytes now) runs ≡ bytes)
+
+-- What stands before the data blocks, before a place, and at each held place stays as it is.
+pub record KeepsOthers (l : Layout) (held : List Bool) (from : ℕ) (old new : List ℕ) : Type 0 where
+  pub size : length new ≡ length old
+  pub areas : take (first_byte l) new ≡ take (first_byte l) old
+  pub front : take (4096 * from) new ≡ take (4096 * from) old
+  pub blocks : (place : ℕ) → is_held l held place ≡ true → block_at new place ≡ block_at old place
 
 -- why staging may fail on a volume that is up: want of memory, or a fault of the disk
 abbrev pub HindersStaging : Seen → Seen → Hindrance → Type 0

@@ -1,5 +1,6 @@
 //! Commits: the journal makes the current table the one that the image holds.
-ghost use Rattle.std.specs.Prelude.{◌≡◌, ℕ, ◌+◌, ◌≤◌, false, true, None, Some, Err, IfSome, IsOk, OnOk, OnErr, IfErr, []};
+ghost use Rattle.std.specs.Prelude.{◌≡◌, ℕ, ◌+◌, ◌<◌, ◌≤◌, drop, false, true, None, Some, Err, IfSome, IsOk, OnOk, OnErr, IfErr, []};
+ghost use Rattle.std.specs.Option.{option_map};
 ghost use Rattle.sis_disk.specs.Causes.{GoesDown, StaysUp};
 ghost use Rattle.sis_disk.specs.Layout.{first_byte};
 ghost use Rattle.sis_disk.specs.Record.{live_of};
@@ -27,8 +28,8 @@ impl<D: Disk> Volume<D> {
         ensures unchanged { self.old.down ≡ None → self.old.is_changed ≡ false
             → IsOk result × (self.new ≡ self.old) }
 
-        // An error is the first call that failed, or was refused, and no call follows it. From then on
-        // each commit gives it again.
+        // An error is the first call that failed, or was refused: one of the four, which no made call
+        // follows. From then on each commit gives it again.
         ensures up { OnOk result
             (StaysUp (first_byte self.old.table.layout) self.old.seen self.new.seen) }
         ensures err { OnErr result (self.new ≡ record self.old {
@@ -39,14 +40,20 @@ impl<D: Disk> Volume<D> {
             (at : ℕ) × (h ≡ Hindrance.Down at) × (self.new.down ≡ Some at)
             × (self.old.down ≡ None
             → GoesDown (first_byte self.old.table.layout) at self.old.seen self.new.seen)) }
+        ensures number { self.old.down ≡ None → IfErr result (λ h. (at : ℕ)
+            × (h ≡ Hindrance.Down at) × (at < self.old.seen.calls + 4)) }
         ensures down { IfSome self.old.down (λ at.
             (result ≡ Err (Hindrance.Down at)) × (self.new ≡ self.old)) }
+        ensures quiet { OnOk result (self.new.seen.faults ≡ self.old.seen.faults) }
 
-        // At every moment a stop leaves what it left before, or the files of now.
+        // At every moment a stop leaves what it left before, or the files of now. The data blocks
+        // stay as they are.
         ensures images { self.old.down ≡ None
             → MayCommit self.old.table self.old.seen self.new.seen }
         ensures files { files_in self.new.table self.new.seen
             ≡ files_in self.old.table self.old.seen }
+        ensures blocks { option_map (drop (first_byte self.old.table.layout)) (live_of self.new.seen)
+            ≡ option_map (drop (first_byte self.old.table.layout)) (live_of self.old.seen) }
         ensures elapses { Elapses self.old.seen self.new.seen }
         ensures calls { self.new.seen.calls ≤ self.old.seen.calls + 4 }
     {

@@ -1,7 +1,9 @@
 //! How much room a volume has.
-ghost use Rattle.std.specs.Prelude.{◌≡◌, ◌⊎◌, ◌+◌, ◌<◌, ◌≤◌, length, Err, None, IfErr, IfSome, IsOk, OnOk, OnErr};
+ghost use Rattle.std.specs.Prelude.{◌≡◌, ◌⊎◌, ◌+◌, ◌<◌, ◌≤◌, drop, length, Err, None, IfErr, IfSome, IsOk, OnOk, OnErr};
+ghost use Rattle.std.specs.Option.{option_map};
 ghost use Rattle.sis_disk.specs.Causes.{StaysUp};
 ghost use Rattle.sis_disk.specs.Layout.{data_blocks, first_byte};
+ghost use Rattle.sis_disk.specs.Record.{live_of};
 ghost use Rattle.sis_disk.specs.Stops.{Elapses};
 ghost use Rattle.sis_table.specs.Content.{files_in};
 ghost use Rattle.sis_table.specs.Volume.{used};
@@ -53,13 +55,16 @@ impl<D: Disk> Volume<D> {
             → IfErr result (HindersRoom needed self.old self.new) }
 
         // No call fails a commit unless it is told. At every moment a stop leaves what it left before,
-        // or the files of now.
+        // or the files of now. The data blocks stay as they are.
         ensures up { OnOk result
             (StaysUp (first_byte self.old.table.layout) self.old.seen self.new.seen) }
+        ensures quiet { OnOk result (self.new.seen.faults ≡ self.old.seen.faults) }
         ensures images { self.old.down ≡ None
             → MayCommit self.old.table self.old.seen self.new.seen }
         ensures files { files_in self.new.table self.new.seen
             ≡ files_in self.old.table self.old.seen }
+        ensures blocks { option_map (drop (first_byte self.old.table.layout)) (live_of self.new.seen)
+            ≡ option_map (drop (first_byte self.old.table.layout)) (live_of self.old.seen) }
         ensures elapses { Elapses self.old.seen self.new.seen }
         ensures calls { self.new.seen.calls ≤ self.old.seen.calls + 4 }
     {

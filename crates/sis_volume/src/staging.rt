@@ -4,12 +4,13 @@ ghost use Rattle.sis_disk.specs.Causes.{StaysUp};
 ghost use Rattle.sis_disk.specs.Layout.{IsLayout, data_blocks, first_byte};
 ghost use Rattle.sis_disk.specs.Record.{live_of};
 ghost use Rattle.sis_disk.specs.Stops.{Elapses};
+ghost use Rattle.sis_journal.specs.Committing.{Both};
 ghost use Rattle.sis_table.specs.Runs.{place_end};
 ghost use Rattle.sis_table.specs.Content.{files_in};
 ghost use Rattle.sis_table.specs.declared.runs.Run.{Run as ARun};
 ghost use Rattle.sis_table.specs.declared.edit.Edit.{Edit as AnEdit};
 ghost use Rattle.sis_volume.specs.View.{spare_from, spare_in};
-ghost use Rattle.sis_volume.specs.Staging.{Stages, HindersStaging};
+ghost use Rattle.sis_volume.specs.Staging.{KeepsOthers, Stages, HindersStaging};
 ghost use Rattle.sis_volume.specs.Stopping.{OnlyOpens};
 ghost use Rattle.sis_volume.specs.Keeping.{IsNextRun, StagesRun, StagesRuns, WritesSpare};
 
@@ -141,9 +142,12 @@ impl<D: Disk> Volume<D> {
         ensures cause { self.old.down ≡ None
             → IfErr result (HindersStaging self.old.seen self.new.seen) }
 
-        // Nothing else changes, at no moment does a stop leave other files than before, and each
-        // call of the disk writes a block at least.
+        // Nothing else changes: no byte before the data blocks, before the transaction's next place, nor
+        // at a place that either table maps. At no moment does a stop leave other files than before.
+        // There are at most as many calls as blocks.
         ensures same { self.new ≡ record self.old { seen = self.new.seen } }
+        ensures others { Both (KeepsOthers self.old.table.layout self.old.held txn.old.from)
+            (live_of self.old.seen) (live_of self.new.seen) }
         ensures up { StaysUp (first_byte self.old.table.layout) self.old.seen self.new.seen }
         ensures images { OnlyOpens self.old.seen self.new.seen }
         ensures files { files_in self.new.table self.new.seen

@@ -1,10 +1,12 @@
-use Rattle.std.proofs.Common.{◌≡◌, Bool, false, not, List, length, sym, ap, ◌∙◌, subst}
+use Rattle.std.proofs.Common.{◌≡◌, Bool, drop, false, not, List, sym, ap, subst}
+use Rattle.std.specs.Option.{option_map}
+use Rattle.sis_disk.specs.declared.layout.Layout.{Layout}
+use Rattle.sis_disk.specs.Layout.{first_byte}
 use Rattle.sis_disk.specs.Record.{live_of}
 use Rattle.sis_table.specs.Volume.{used_places}
-use Rattle.sis_table.proofs.PutLemmas.{length-used_places}
 use Rattle.sis_volume.specs.Stopping.{IsCommitted, MayCommit}
 use Rattle.sis_volume.specs.View.{VolumeView}
-use Rattle.sis_volume.proofs.Committed.{files-rest, is_committed, kept-committed, live-committed, may_commit, none_told, opens-committed, unchanged_committed}
+use Rattle.sis_volume.proofs.Committed.{blocks-rest, files-rest, is_committed, kept-committed, live-committed, may_commit, none_told, opens-committed, unchanged_committed}
 use Rattle.sis_volume.proofs.volume.Volume.commit.Goals as goal
 
 pub returns-then-not-self-clause-ok : goal.returns-then-not-self-clause-ok
@@ -66,3 +68,15 @@ pub returns-in-Err-Down-clause-files : goal.returns-in-Err-Down-clause-files
 returns-in-Err-Down-clause-files g c =
     rw (← c.self.view_is) (files-rest c.self.inside.kept c.self.inside.journal.layout c.self.inside.journal.second (live_of (g.D.Disk.seen c.self.inside.disk)) (live_of (g.D.Disk.seen c.commit.new.disk))
     c.self.invariant.table (sym c.self.invariant.journal) c.commit.ensures.rest)
+
+pub returns-in-Ok-clause-blocks : goal.returns-in-Ok-clause-blocks
+returns-in-Ok-clause-blocks g c =
+    rw (← c.self.view_is) (subst (λ (l : Layout). option_map (drop (first_byte l)) (live_of (g.D.Disk.seen c.commit.new.disk)) ≡ option_map (drop (first_byte l)) (live_of (g.D.Disk.seen c.self.inside.disk)))
+    c.self.invariant.journal
+    (blocks-rest c.self.inside.journal.layout c.self.inside.journal.second (live_of (g.D.Disk.seen c.self.inside.disk)) (live_of (g.D.Disk.seen c.commit.new.disk)) c.commit.ensures.rest))
+
+pub returns-in-Err-Down-clause-blocks : goal.returns-in-Err-Down-clause-blocks
+returns-in-Err-Down-clause-blocks g c =
+    rw (← c.self.view_is) (subst (λ (l : Layout). option_map (drop (first_byte l)) (live_of (g.D.Disk.seen c.commit.new.disk)) ≡ option_map (drop (first_byte l)) (live_of (g.D.Disk.seen c.self.inside.disk)))
+    c.self.invariant.journal
+    (blocks-rest c.self.inside.journal.layout c.self.inside.journal.second (live_of (g.D.Disk.seen c.self.inside.disk)) (live_of (g.D.Disk.seen c.commit.new.disk)) c.commit.ensures.rest))

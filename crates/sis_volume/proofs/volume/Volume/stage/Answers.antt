@@ -8,7 +8,7 @@ use Rattle.sis_volume.specs.Invariant.{IsVolume}
 use Rattle.sis_volume.specs.Stopping.{OnlyOpens}
 use Rattle.sis_volume.specs.View.{VolumeView}
 use Rattle.sis_volume.proofs.Unheld.{stages_are}
-use Rattle.sis_volume.proofs.Volumes.{bits-kept, covered-kept, kept-staged, only_opens, files-staged}
+use Rattle.sis_volume.proofs.Volumes.{bits-kept, covered-kept, files-staged, kept-staged, only_opens, others_refl, others-staged}
 use Rattle.sis_volume.proofs.Committed.{no_call}
 use Rattle.sis_volume.proofs.volume.Volume.stage.Goals as goal
 use Rattle.sis_volume.proofs.volume.Volume.stage.Goals.{then-is_err, else-is_err}
@@ -71,3 +71,12 @@ returns-clause-ok g c = elim c.if-is_err.branch [
   ))
       c.stage_runs-staged.ensures.ok)
 ]
+
+pub returns-in-Some-clause-others : goal.returns-in-Some-clause-others
+returns-in-Some-clause-others g c = others_refl _ _ _ _
+
+pub returns-clause-others : goal.returns-clause-others
+returns-clause-others g c =
+    let is = ap (λ (v : VolumeView). v.table.layout) c.self.view_is ∙ sym c.layout-layout.ensures.layout in
+    rw (← c.self.view_is) (rw is (others-staged c.layout-layout.result c.self.inside.mapped c.args.txn.now.from (g.D.Disk.seen c.self.inside.disk) (g.D.Disk.seen c.stage_runs-staged.new.disk)
+    c.stage_runs-staged.ensures.writes))
