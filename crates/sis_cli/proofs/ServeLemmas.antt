@@ -1,54 +1,33 @@
 -- What a run leaves whose image was opened, from what its parts do.
-use Rattle.std.proofs.Common.{◌≡◌, ◌⊎◌, inl, inr, ⊎_elim, ℕ, ◌*◌, ◌+◌, ◌≤◌, Bool, true, false, List, [], length, map, Option, None, Some, Result, Ok, Err, refl, sym, ap, subst, ◌∙◌, arith, append-nil}
-use Rattle.std.specs.Prelude.{IfSome, ◌≢◌, replicate, is_some, All, OnOk, OnErr}
+use Rattle.std.proofs.Common.{◌≡◌, ◌⊎◌, inl, inr, ℕ, ◌*◌, ◌+◌, List, [], length, map, Option, None, Some, Ok, refl, sym, ap, subst, ◌∙◌, arith}
+use Rattle.std.specs.Prelude.{IfSome, ◌≢◌, replicate, All}
 use Rattle.std.specs.Option.{option_map}
-use Rattle.std.specs.FinMap.{get-empty}
 use Rattle.std.proofs.lemmas.List.{length-replicate}
-use Rattle.sis_name.specs.Units.{name_cmp}
-use Rattle.sis_disk.specs.Record.{Seen, DiskRecord, IsCounted, Rose, live_of, live_bytes}
-use Rattle.sis_disk.specs.Streams.{Appended, AppendedFront}
-use Rattle.sis_disk.proofs.Appends.{AppendedFront-none}
+use Rattle.sis_disk.specs.Record.{Seen, DiskRecord, IsCounted, live_of, live_bytes}
 use Rattle.sis_model.specs.World.{World, unopened}
-use Rattle.sis_model.specs.History.{world_after}
 use Rattle.sis_model.specs.Order.{line_of, exec_order, commands_of}
 use Rattle.sis_model.proofs.Orders.{commands-exec_order}
 use Rattle.sis_model.specs.declared.history.Entry.{Entry}
-use Rattle.sis_model.specs.declared.history.Line.{Line}
-use Rattle.sis_table.specs.Volume.{VolumeTable, IsTable, empty_table}
+use Rattle.sis_table.specs.Volume.{VolumeTable, IsTable}
 use Rattle.sis_table.specs.Content.{files_of}
 use Rattle.sis_table.specs.Good.{IsGood}
-use Rattle.sis_table.specs.Image.{Holds, image_at}
+use Rattle.sis_table.specs.Image.{image_at}
 use Rattle.sis_table.specs.Opens.{OpensAs}
-use Rattle.sis_script.specs.Printed.{printed}
-use Rattle.sis_script.specs.Script.{Parts, script_of, FailsAs, IsClient, IsBuilt}
+use Rattle.sis_script.specs.Script.{Parts, script_of, IsClient, IsBuilt}
 use Rattle.sis_script.specs.Taken.{TakesAtMost}
-use Rattle.sis_script.specs.declared.faults.PrintFault.{PrintFault}
-use Rattle.sis_script.specs.declared.faults.PrintFault.TheVariants as print
-use Rattle.sis_script.specs.declared.faults.ScriptFault.{ScriptFault}
-use Rattle.sis_script.specs.declared.faults.ScriptFault.TheVariants as script
 use Rattle.sis_script.specs.declared.limits.TheConstants.{MOST_SCRIPT_BYTES}
-use Rattle.sis_history.specs.Stops.{Survives, SurvivesStops}
 use Rattle.sis_history.proofs.StopLemmas.{survives_stops}
-use Rattle.sis_journal.specs.Opening.{Caused, IsSynced, SyncThenReads}
-use Rattle.sis_journal.specs.declared.fault.OpenFault.{OpenFault}
-use Rattle.sis_journal.specs.declared.fault.OpenFault.TheVariants as opening
-use Rattle.sis_journal.proofs.Behind.{synced_at}
+use Rattle.sis_journal.specs.Opening.{SyncThenReads}
 use Rattle.sis_volume.specs.View.{VolumeView}
-use Rattle.sis_volume.specs.Opening as opening_words
 use Rattle.sis_volume.specs.Stopping.{OpensTable}
 use Rattle.sis_volume.proofs.Stopping.{opens_table}
-use Rattle.sis_cli.specs.Exit.{risen, exit_of}
-use Rattle.sis_cli.specs.Session.{ShowsWorld, IsSince, HasRun, ends_with_end, stage_of}
-use Rattle.sis_cli.specs.Stages.{any_down, Stage}
-use Rattle.sis_cli.specs.Stops.{SurvivesRun}
-use Rattle.sis_cli.specs.Run.{TellsDown, IsScript, IsGoodImage, IsOnlyOpened, Counts, ExecCause, RunsScript, HasCalls, HasOpened, SparesExec, least_layout, table_in, table_or, world_in, untold, Starts, HoldsFiles, IsHistory, CauseOfEnd, LeavesRun, Serves, WritesAll, IfUp}
-use Rattle.sis_cli.specs.declared.ending.Ending.{Ending}
-use Rattle.sis_cli.specs.declared.ending.Ending.TheVariants as ending
+use Rattle.sis_cli.specs.Exit.{risen}
+use Rattle.sis_cli.specs.Session.{ShowsWorld, stage_of}
+use Rattle.sis_cli.specs.Run.{IsScript, IsGoodImage, IsOnlyOpened, Counts, ExecCause, RunsScript, HasCalls, SparesExec, table_in, table_or, untold, Starts, CauseOfEnd, LeavesRun, Serves}
 use Rattle.sis_cli.specs.declared.exit.Exit.{Exit}
 use Rattle.sis_cli.specs.declared.exit.Exit.TheVariants as exit
-use Rattle.sis_cli.proofs.Runs.{run_good, order_ends}
 use Rattle.sis_cli.proofs.Sizes.{sizes-files_of}
-use Rattle.sis_cli.proofs.Surviving.{opened_survives, run_in_order, survives_same, survives_synced}
+use Rattle.sis_cli.proofs.Surviving.{opened_survives, run_in_order}
 use Rattle.sis_cli.proofs.Worlds.{shows_files}
 
 -- ---- the calls of a run

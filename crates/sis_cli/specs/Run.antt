@@ -1,6 +1,7 @@
 -- What a run may answer, and what it leaves.
 use Rattle.std.specs.Prelude.{◌≡◌, ◌≢◌, ◌⊎◌, ℕ, ◌*◌, false, List, [], map, Option, Some, None, IfSome, Result, Ok, Err, ⊤, true, All, ◌+◌, ◌≤◌}
-use Rattle.sis_disk.specs.Record.{DiskRecord, Seen, Rose, live_of}
+use Rattle.std.specs.Option.{option_map}
+use Rattle.sis_disk.specs.Record.{DiskRecord, Seen, Rose, laid, live_of}
 use Rattle.sis_disk.specs.declared.layout.Layout.{Layout}
 use Rattle.sis_disk.specs.declared.layout.ImageKind.TheVariants as image
 use Rattle.sis_disk.specs.Streams.{Appended, AppendedFront}
@@ -14,6 +15,7 @@ use Rattle.sis_script.specs.Script.{Parts, script_of, IsClient, IsBuilt}
 use Rattle.sis_script.specs.declared.faults.ScriptFault.TheVariants as script
 use Rattle.sis_table.specs.Volume.{VolumeTable, empty_table, IsTable}
 use Rattle.sis_table.specs.Content.{StandsFor, files_of}
+use Rattle.sis_table.specs.Spelling.{spelling}
 use Rattle.sis_table.specs.Good.{IsGood, first_defect}
 use Rattle.sis_table.specs.Image.{Holds, image_at}
 use Rattle.sis_disk.specs.Superblock.{ImageFault}
@@ -22,7 +24,7 @@ use Rattle.sis_script.specs.Taken.{TakesAtMost}
 use Rattle.sis_script.specs.declared.limits.TheConstants.{MOST_SCRIPT_BYTES}
 use Rattle.sis_history.specs.Stops.{AreInOrder, Survives, SurvivesStops}
 use Rattle.sis_journal.specs.Opening.{IsSynced, SyncThenReads}
-use Rattle.sis_journal.specs.Formatting.{EndsInSync}
+use Rattle.sis_journal.specs.Formatting.{EndsInSync, new_blocks}
 use Rattle.sis_cli.specs.Words.{Words, Fault}
 use Rattle.sis_cli.specs.Exit.{risen, length_at}
 use Rattle.sis_cli.specs.Session.{ShowsWorld, stage_of}
@@ -35,6 +37,7 @@ use Rattle.sis_cli.specs.declared.exit.Exit.TheVariants as exit
 
 -- ---- verbs
 
+-- P holds of the verb `exec`, and Q of `format`
 abbrev pub IsExec : Verb → Type 0 → Type 0 → Type 0
 IsExec verb.Exec P Q = P
 IsExec verb.Format P Q = Q
@@ -169,8 +172,8 @@ pub record IsOnlyOpened (old new : Seen) : Type 0 where
   pub reads : SyncThenReads 4 old new
   pub synced : IsSynced old new
 
--- What a run of a script did to the disk that ended so. Where the script was refused, nothing; where
--- the image was refused, or there are no entries, it was opened, or failed while it was.
+-- What a run of a script did to the disk that ended so. Where the script was refused, nothing;
+-- where the image was refused, or there are no entries, it was opened, or failed while it was.
 abbrev pub SparesExec : Exit → Seen → Seen → List Entry → Type 0
 SparesExec exit.Done old new entries = entries ≡ [] → IsOnlyOpened old new
 SparesExec (exit.Usage at kind) old new entries = new ≡ old
@@ -247,6 +250,7 @@ table_or (Err fault) = empty_table least_layout
 abbrev pub table_in : List ℕ → VolumeTable
 table_in m = table_or (image_at m)
 
+-- the world that has these files
 abbrev pub world_in : List ℕ → World
 world_in m = unopened (table_in m).layout.letter (files_of (table_in m) m)
 
@@ -289,8 +293,8 @@ pub record IsLast (s : Stage) (new : Seen) : Type 0 where
   pub calls : s.calls ≡ new.calls
 
 -- What is to be known of a run that ended so for each stop to be survived: nothing where the lines
--- ran, and else that the image is one that opens. Where the disk failed without entries, it may have
--- failed at the sync with which opening begins: then that one has to have succeeded.
+-- ran, and else that the image is one that opens. Where the disk failed without entries, it may
+-- have failed at the sync with which opening begins: then that one has to have succeeded.
 abbrev pub HasOpened : Exit → Seen → DiskRecord → List Entry → Type 0
 HasOpened exit.Done old now entries = ⊤
 HasOpened (exit.Usage at kind) old now entries = IsGoodImage (live_of old)
@@ -342,10 +346,20 @@ TellsDown exit.Memory entries = ⊤
 
 -- ---- what format does
 
--- The image has the table without files, and the last call was a sync.
-pub record IsFormatted (l : Layout) (seen : Seen) : Type 0 where
-  pub holds : IfSome (live_of seen) (λ m. Holds m (empty_table l))
-  pub synced : IfSome seen.told EndsInSync
+-- the live bytes with the blocks of an image without files before them, where the disk tells them
+abbrev pub with_new_blocks : Layout → Seen → Option (List ℕ)
+with_new_blocks l seen =
+    option_map (λ live. laid live 0 (new_blocks l (spelling (empty_table l)))) (live_of seen)
+
+-- The image has the table without files, in its first blocks, and the last call was a sync.
+pub record IsFormatted (l : Layout) (old new : Seen) : Type 0 where
+  pub holds : IfSome (live_of new) (λ m. Holds m (empty_table l))
+  pub bytes : live_of new ≡ with_new_blocks l old
+  pub synced : IfSome new.told EndsInSync
+
+-- these blocks were written, or no byte has changed
+abbrev pub LaysNew : Layout → Seen → Seen → Type 0
+LaysNew l old new = (live_of new ≡ live_of old) ⊎ (live_of new ≡ with_new_blocks l old)
 
 -- ---- what parts of a run leave
 
@@ -399,5 +413,6 @@ pub record Formats (l : Layout) (old new : Seen) (status : Exit)
     (entries : List Entry) : Type 0 where
   pub none : entries ≡ []
   pub spared : SparesFormat status old new
-  pub formatted : status ≡ exit.Done → IsFormatted l new
+  pub formatted : status ≡ exit.Done → IsFormatted l old new
+  pub blocks : LaysNew l old new
   pub cause : FormatCause l old.size old.faults new.faults status

@@ -71,11 +71,12 @@ entry_of l r at = record {
   answered = at;
 }
 
--- the last of some commands is an end, or there is none
+-- the command is an end
 abbrev pub is_end : Command → Bool
 is_end command.End = true
 is_end _ = false
 
+-- the last of some lines is an end, or there is none
 abbrev pub ends_with_end : List Line → Bool
 ends_with_end [] = true
 ends_with_end (l ∷ []) = is_end l.command

@@ -98,8 +98,8 @@ IsDownOrMemory hindrance.Disk = ⊥
 IsDownOrMemory (hindrance.TableFull needed cap) = ⊥
 IsDownOrMemory hindrance.Memory = ⊤
 
--- What the replies of each command say of the table before it. Which refusal comes, and which names
--- and sizes are told, says the world of files; no other reply comes.
+-- What a put's reply says of the table before it. Which refusal comes says the world of files; no
+-- other reply comes.
 abbrev pub FitsPut : VolumeTable → Type 0 → List ℕ → List ℕ → Reply → Type 0
 FitsPut v rose name bytes reply.Done = put_hindrance v (length bytes) ≡ None
 FitsPut v rose name bytes reply.InvalidParameter = ⊤
@@ -108,6 +108,7 @@ FitsPut v rose name bytes reply.Collision = ⊤
 FitsPut v rose name bytes (reply.Hindered by) = IsPutCause v rose name bytes by
 FitsPut v rose name bytes _ = ⊥
 
+-- what a stat is answered: which of these, and which size, says the world
 abbrev pub FitsStat : Reply → Type 0
 FitsStat (reply.Sized size) = ⊤
 FitsStat reply.AccessDenied = ⊤
@@ -115,22 +116,25 @@ FitsStat reply.NotFound = ⊤
 FitsStat (reply.Hindered by) = IsDownOnly by
 FitsStat _ = ⊥
 
+-- what a list is answered: which names, says the world
 abbrev pub FitsList : Reply → Type 0
 FitsList (reply.Names names more) = ⊤
 FitsList (reply.Hindered by) = IsDownOrMemory by
 FitsList _ = ⊥
 
+-- what the numbers of blocks say of the table
 abbrev pub FitsSpace : VolumeTable → Reply → Type 0
 FitsSpace v (reply.Space used_now total) = (used_now ≡ used v) × (total ≡ data_blocks v.layout)
 FitsSpace v (reply.Hindered by) = IsDownOnly by
 FitsSpace v _ = ⊥
 
+-- a sync went well, or a commit failed
 abbrev pub FitsSync : Reply → Type 0
 FitsSync reply.Done = ⊤
 FitsSync (reply.Hindered by) = IsDownOnly by
 FitsSync _ = ⊥
 
--- no file is a link so far, so none is left unsettled
+-- the same of an end: no file is a link so far, so none is left unsettled
 abbrev pub FitsEnd : Reply → Type 0
 FitsEnd (reply.Ended closed unsettled) = unsettled ≡ []
 FitsEnd (reply.Hindered by) = IsDownOnly by

@@ -10,7 +10,7 @@ ghost use Rattle.sis_script.specs.Script.{IsBuilt};
 ghost use Rattle.sis_cli.specs.Exit.{exit_of, risen};
 ghost use Rattle.sis_cli.specs.Words.{texts, plan_of};
 ghost use Rattle.sis_cli.specs.Run.{IfExec, IfFormat, ExitCause, IsAccepted, HasCalls, IsHistory};
-ghost use Rattle.sis_cli.specs.Run.{IsFormatted, LeavesRun, Serves, Formats};
+ghost use Rattle.sis_cli.specs.Run.{Formats, IsFormatted, LaysNew, LeavesRun, Serves};
 ghost use Rattle.sis_cli.specs.Run.{TellsDown, WritesAll, Spares, TakesScript};
 
 use crate::ending::{Ended, Ending};
@@ -89,7 +89,8 @@ fn exec<D: Disk, S: Source, K: Sink>(alloc: Global, disk: D, input: &mut S, out:
 
 // Makes the disk an image without files.
 fn format<D: Disk>(alloc: Global, disk: D, layout: Layout) -> Ended<D>
-    requires { IsLayout layout }
+    requires layout { IsLayout layout }
+    requires log { layout.log ≡ 0 }
     ensures { Formats layout (D.seen disk) (D.seen result.disk)
         (exit_of (risen (D.seen disk).faults (D.seen result.disk).faults) result.ending)
         result.history.entries }
@@ -125,10 +126,12 @@ pub fn run<D: Disk, S: Source, K: Sink, G: Guids>(
         (HasCalls result.status (S.left input.old) result.history.entries)
         (result.history.entries ≡ []) }
 
-    // What was refused leaves the disk as it was, a script without lines calls it no more than
-    // opening does, and nothing else takes of the input.
+    // Words and scripts that are refused leave the disk as it was. An image that is refused, and a
+    // script without lines, have it called no more than opening does.
     ensures spared { Spares (plan_of (texts words.now)) result.status
         (D.seen disk) (D.seen result.disk) result.history.entries }
+
+    // Only a script is taken of the input.
     ensures input { IfExec (plan_of (texts words.now))
         (TakesScript result.status (S.left input.old) (S.left input.new))
         (S.left input.new ≡ S.left input.old) }
@@ -143,9 +146,11 @@ pub fn run<D: Disk, S: Source, K: Sink, G: Guids>(
     ensures front { AppendedFront (K.written out.old) (K.written out.new)
         (printed result.history.entries) }
 
-    // A formatted image has no files, and is stable.
+    // A formatted image has no files, and is stable. Whatever its end, only the first blocks change.
     ensures formatted { IfFormat (plan_of (texts words.now)) (λ layout. result.status ≡ Exit.Done
-        → IsFormatted layout (D.seen result.disk)) }
+        → IsFormatted layout (D.seen disk) (D.seen result.disk)) }
+    ensures blocks { IfFormat (plan_of (texts words.now)) (λ layout.
+        LaysNew layout (D.seen disk) (D.seen result.disk)) }
 
     // Why it ends so.
     ensures cause { ExitCause (plan_of (texts words.now)) (S.left input.old)

@@ -1,4 +1,4 @@
-use Rattle.std.proofs.Common.{ap, sym, refl, subst, ℕ, Err}
+use Rattle.std.proofs.Common.{ap, sym, refl, subst, Err}
 use Rattle.sis_script.specs.Views.{parts_of}
 use Rattle.sis_script.specs.declared.faults.ScriptFault.{ScriptFault}
 use Rattle.sis_journal.specs.Opening.{Caused, IsSynced, SyncThenReads}

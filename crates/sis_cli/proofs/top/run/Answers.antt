@@ -1,10 +1,10 @@
-use Rattle.std.proofs.Common.{ℕ, ap, sym, refl, subst, ◌∙◌}
+use Rattle.std.proofs.Common.{ℕ, ap, inl, sym, refl, subst, ◌∙◌}
 use Rattle.sis_disk.specs.Record.{live_of}
 use Rattle.sis_cli.specs.Exit.{exit_of, risen}
-use Rattle.sis_cli.specs.Run.{Counts, ExecCause}
+use Rattle.sis_cli.specs.Run.{Counts, ExecCause, LaysNew}
 use Rattle.sis_cli.specs.Words.{texts, plan_of, shown}
 use Rattle.sis_cli.specs.declared.exit.Exit.{Exit}
-use Rattle.sis_cli.proofs.WordLemmas.{cause_exec, complete_by, is_exec, refused_history}
+use Rattle.sis_cli.proofs.WordLemmas.{any_format, cause_exec, complete_by, is_exec, refused_history}
 use Rattle.sis_cli.proofs.top.run.Goals as goal
 
 pub returns-in-Err-clause-history : goal.returns-in-Err-clause-history
@@ -13,6 +13,11 @@ returns-in-Err-clause-history g c =
     (g.D.Disk.seen c.args.disk) (g.D.Disk.seen c.args.disk) c.new.result.entries c.from.ensures
     c.in-Err.ensures.words c.in-Err.ensures.refused refl c.new.ensures
     (g.met.D.Disk.counted c.args.disk)
+
+pub returns-in-Err-clause-blocks : goal.returns-in-Err-clause-blocks
+returns-in-Err-clause-blocks g c =
+    let seen = g.D.Disk.seen c.args.disk in
+    any_format (plan_of (texts c.args.words.now)) (λ l. LaysNew l seen seen) (λ l. inl refl)
 
 pub returns-clause-complete : goal.returns-clause-complete
 returns-clause-complete g c =
