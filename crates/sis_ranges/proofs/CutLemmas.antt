@@ -1,11 +1,12 @@
 -- Runs up to before a block, and from a block on.
-use Rattle.std.proofs.Common.{◌≡◌, ℕ, zero, suc, ◌+◌, ◌-◌, ◌<◌, ◌≤◌, Bool, true, false, cond, List, [], ◌∷◌, length, take, drop, get_or, drop-cons, length-drop, set, None, Some, refl, ap, ap₂, sym, ◌∙◌, subst, arith}
-use Rattle.std.specs.Prelude.{nat_le, nat_lt}
+use Rattle.std.proofs.Common.{◌≡◌, ℕ, zero, suc, ◌+◌, ◌-◌, ◌<◌, ◌≤◌, Bool, true, false, cond, List, [], ◌∷◌, length, take, drop, get_or, drop-cons, set, None, Some, refl, ap, ap₂, sym, ◌∙◌, subst, arith}
+use Rattle.std.specs.Prelude.{◌==◌, ◌&&◌, nat_le, nat_lt, min}
 use Rattle.std.specs.List.{AllByRecursion}
+use Rattle.std.proofs.lemmas.List.{drop-drop}
 use Rattle.std.proofs.lemmas.Bool.Decides.{nat_tests}
 use Rattle.sis_ranges.specs.declared.run.Run.{Run}
-use Rattle.sis_ranges.specs.Extents.{block_end, IsApart, AreRuns, IsWithin}
-use Rattle.sis_ranges.specs.Inside.{has_block, place_of, passed_by, run_before, run_from, from_block, before, from, IsNext}
+use Rattle.sis_ranges.specs.Extents.{block_end, place_end, has_block, place_of, can_join, IsApart, AreRuns, IsWithin}
+use Rattle.sis_ranges.specs.Inside.{passed_by, run_before, run_from, from_block, before, first_of, from, IsNext}
 
 pub split : {A : Type 0} (a b : ℕ) → (a ≤ b → A) → (b < a → A) → A
 split {A} a b f g = elim (nat_le a b) as (λ t. nat_le a b ≡ t → A) [
@@ -33,6 +34,10 @@ has_no-low r block low = grind (arith, nat_tests, low)
 
 pub has_no-high : (r : Run) (block : ℕ) → block_end r ≤ block → has_block block r ≡ false
 has_no-high r block high = grind (arith, nat_tests, high)
+
+-- runs that end alike can be joined with the same runs
+pub can_join-same : (r t s : Run) → block_end r ≡ block_end t → place_end r ≡ place_end t → can_join r s ≡ false → can_join t s ≡ false
+can_join-same r t s blocks places h = ap₂ (λ (a b : ℕ). (a == s.first) && (b == s.place)) (sym blocks) (sym places) ∙ h
 
 -- ---- where runs begin
 
@@ -154,39 +159,89 @@ before-no r rs block low high =
     ap (λ (b : Bool). cond b (r ∷ before block rs) (cond (nat_lt r.first block) (run_before block r ∷ []) [])) (le_no (block_end r) block high)
     ∙ ap (λ (b : Bool). cond b (run_before block r ∷ []) []) (lt_no r.first block low)
 
-before-cut : (runs : List Run) (block i : ℕ) (r : Run) → i ≡ passed_by block runs → i < length runs → r ≡ get_or runs i r → r.first < block
-    → take (suc i) (set runs i (run_before block r)) ≡ before block runs
-before-cut [] block i r is lt there low = absurd (omega (arith, lt))
-before-cut (s ∷ rs) block zero r is lt there low = split (block_end s) block
-    (λ le. absurd (omega (arith, is, passed-yes s rs block le)))
-    (λ less. ap (λ (t : Run). run_before block t ∷ []) there ∙ sym (before-in s rs block (subst (λ (t : Run). t.first < block) there low) less))
-before-cut (s ∷ rs) block (suc i) r is lt there low = split (block_end s) block
-    (λ le. ap (λ (l : List Run). s ∷ l) (before-cut rs block i r (omega (arith, is, passed-yes s rs block le)) (omega (arith, lt)) there low) ∙ sym (before-yes s rs block le))
-    (λ less. absurd (omega (arith, is, passed-no s rs block less)))
-
 -- two reads of one place give one run
 pub same_there : (rs : List Run) (i : ℕ) (r s : Run) → i < length rs → r ≡ get_or rs i r → s ≡ get_or rs i s → r ≡ s
 same_there [] i r s lt at_r at_s = absurd (omega (arith, lt))
 same_there (q ∷ qs) zero r s lt at_r at_s = at_r ∙ sym at_s
 same_there (q ∷ qs) (suc i) r s lt at_r at_s = same_there qs i r s (omega (arith, lt)) at_r at_s
 
-pub before-set : (runs : List Run) (block k i : ℕ) (r s t : Run) → k ≡ suc i → i ≡ passed_by block runs → i < length runs
-    → r ≡ get_or runs i r → s ≡ get_or runs i s → t ≡ get_or runs i t → s.first < block
-    → take k (set runs i (record { first = r.first; count = block - t.first; place = r.place })) ≡ before block runs
-before-set runs block k i r s t next is lt at_r at_s at_t low =
-    ap₂ (λ (n m : ℕ). take n (set runs i (record { first = r.first; count = block - m; place = r.place }))) next (ap (λ (q : Run). q.first) (same_there runs i t r lt at_t at_r))
-    ∙ before-cut runs block i r is lt at_r (subst (λ (q : Run). q.first < block) (same_there runs i s r lt at_s at_r) low)
+nothing : (rs : List Run) → length rs ≡ 0 → rs ≡ []
+nothing [] e = refl
+nothing (r ∷ rs) e = absurd (omega (arith, e))
 
-pub before-take : (runs : List Run) (block i : ℕ) (d : Run) → i ≡ passed_by block runs → (i < length runs → block ≤ (get_or runs i d).first)
-    → take i runs ≡ before block runs
-before-take [] block zero d is low = refl
-before-take [] block (suc i) d is low = refl
-before-take (s ∷ rs) block zero d is low = split (block_end s) block
-    (λ le. absurd (omega (arith, is, passed-yes s rs block le)))
-    (λ less. sym (before-no s rs block (low (omega arith)) less))
-before-take (s ∷ rs) block (suc i) d is low = split (block_end s) block
-    (λ le. ap (λ (l : List Run). s ∷ l) (before-take rs block i d (omega (arith, is, passed-yes s rs block le)) (λ lt. low (omega (arith, lt)))) ∙ sym (before-yes s rs block le))
-    (λ less. absurd (omega (arith, is, passed-no s rs block less)))
+-- how many begin before a block
+pub begun-in : (rs : List Run) (block i : ℕ) (d : Run) → i ≡ passed_by block rs → i < length rs → (get_or rs i d).first < block → length (before block rs) ≡ suc i
+begun-in [] block i d is lt low = absurd (omega (arith, lt))
+begun-in (r ∷ rs) block zero d is lt low = split (block_end r) block
+    (λ le. absurd (omega (arith, is, passed-yes r rs block le)))
+    (λ less. ap (λ (l : List Run). length l) (before-in r rs block low less))
+begun-in (r ∷ rs) block (suc i) d is lt low = split (block_end r) block
+    (λ le. ap (λ (l : List Run). length l) (before-yes r rs block le)
+    ∙ ap suc (begun-in rs block i d (omega (arith, is, passed-yes r rs block le)) (omega (arith, lt)) low))
+    (λ less. absurd (omega (arith, is, passed-no r rs block less)))
+
+pub begun-out : (rs : List Run) (block i : ℕ) (d : Run) → i ≡ passed_by block rs → (i < length rs → block ≤ (get_or rs i d).first) → length (before block rs) ≡ i
+begun-out [] block zero d is low = refl
+begun-out [] block (suc i) d is low = absurd (omega (arith, is))
+begun-out (r ∷ rs) block zero d is low = split (block_end r) block
+    (λ le. absurd (omega (arith, is, passed-yes r rs block le)))
+    (λ less. ap (λ (l : List Run). length l) (before-no r rs block (low (omega arith)) less))
+begun-out (r ∷ rs) block (suc i) d is low = split (block_end r) block
+    (λ le. ap (λ (l : List Run). length l) (before-yes r rs block le)
+    ∙ ap suc (begun-out rs block i d (omega (arith, is, passed-yes r rs block le)) (λ lt. low (omega (arith, lt)))))
+    (λ less. absurd (omega (arith, is, passed-no r rs block less)))
+
+-- the last of them begins by the block
+pub begun-first : (rs : List Run) (block n : ℕ) (d : Run) → suc n ≡ length (before block rs) → (get_or rs n d).first ≤ block
+begun-first [] block n d is = absurd (omega (arith, is))
+begun-first (r ∷ rs) block zero d is = split (block_end r) block
+    (λ le. omega (arith, le))
+    (λ less. split block r.first
+    (λ ge. absurd (omega (arith, is, ap (λ (l : List Run). length l) (before-no r rs block ge less))))
+    (λ below. omega (arith, below)))
+begun-first (r ∷ rs) block (suc n) d is = split (block_end r) block
+    (λ le. begun-first rs block n d (omega (arith, is, ap (λ (l : List Run). length l) (before-yes r rs block le))))
+    (λ less. split block r.first
+    (λ ge. absurd (omega (arith, is, ap (λ (l : List Run). length l) (before-no r rs block ge less))))
+    (λ below. absurd (omega (arith, is, ap (λ (l : List Run). length l) (before-in r rs block below less)))))
+
+-- it is cut, where it ends behind the block
+trim-cut : (rs : List Run) (block n : ℕ) (d : Run) → suc n ≡ length (before block rs) → block < block_end (get_or rs n d)
+    → take (suc n) (set rs n (run_before block (get_or rs n d))) ≡ before block rs
+trim-cut [] block n d is past = absurd (omega (arith, is))
+trim-cut (r ∷ rs) block zero d is past = split block r.first
+    (λ ge. absurd (omega (arith, is, ap (λ (l : List Run). length l) (before-no r rs block ge past))))
+    (λ below. sym (before-in r rs block below past))
+trim-cut (r ∷ rs) block (suc n) d is past = split (block_end r) block
+    (λ le. ap (λ (l : List Run). r ∷ l) (trim-cut rs block n d (omega (arith, is, ap (λ (l : List Run). length l) (before-yes r rs block le))) past) ∙ sym (before-yes r rs block le))
+    (λ less. split block r.first
+    (λ ge. absurd (omega (arith, is, ap (λ (l : List Run). length l) (before-no r rs block ge less))))
+    (λ below. absurd (omega (arith, is, ap (λ (l : List Run). length l) (before-in r rs block below less)))))
+
+-- and stays, where it ends by the block
+pub trim-keep : (rs : List Run) (block n : ℕ) (d : Run) → suc n ≡ length (before block rs) → block_end (get_or rs n d) ≤ block
+    → take (suc n) rs ≡ before block rs
+trim-keep [] block n d is by = absurd (omega (arith, is))
+trim-keep (r ∷ rs) block zero d is by =
+    ap (λ (l : List Run). r ∷ l) (sym (nothing (before block rs) (omega (arith, is, ap (λ (l : List Run). length l) (before-yes r rs block by)))))
+    ∙ sym (before-yes r rs block by)
+trim-keep (r ∷ rs) block (suc n) d is by = split (block_end r) block
+    (λ le. ap (λ (l : List Run). r ∷ l) (trim-keep rs block n d (omega (arith, is, ap (λ (l : List Run). length l) (before-yes r rs block le))) by) ∙ sym (before-yes r rs block le))
+    (λ less. split block r.first
+    (λ ge. absurd (omega (arith, is, ap (λ (l : List Run). length l) (before-no r rs block ge less))))
+    (λ below. absurd (omega (arith, is, ap (λ (l : List Run). length l) (before-in r rs block below less)))))
+
+pub trim-none : (rs : List Run) (block : ℕ) → 0 ≡ length (before block rs) → take 0 rs ≡ before block rs
+trim-none [] block is = refl
+trim-none (r ∷ rs) block is = sym (nothing (before block (r ∷ rs)) (sym is))
+
+pub trim-set : (rs : List Run) (block k n : ℕ) (r s t : Run) → k ≡ suc n → k ≡ length (before block rs) → n < length rs
+    → r ≡ get_or rs n r → s ≡ get_or rs n s → t ≡ get_or rs n t → block < block_end s
+    → take k (set rs n (record { first = r.first; count = block - t.first; place = r.place })) ≡ before block rs
+trim-set rs block k n r s t next is lt at_r at_s at_t past =
+    ap₂ (λ (j m : ℕ). take j (set rs n (record { first = r.first; count = block - m; place = r.place }))) next (ap (λ (q : Run). q.first) (same_there rs n t r lt at_t at_r))
+    ∙ ap (λ (q : Run). take (suc n) (set rs n (run_before block q))) at_r
+    ∙ trim-cut rs block n r (sym next ∙ is) (subst (λ (q : Run). block < block_end q) (same_there rs n s r lt at_s at_r ∙ at_r) past)
 
 -- ---- from a block on
 
@@ -204,23 +259,42 @@ pub from-no : (r : Run) (rs : List Run) (block : ℕ) → block ≤ r.first → 
 from-no r rs block low high =
     from-less r rs block high ∙ ap (λ (b : Bool). cond b (run_from block r) r ∷ rs) (lt_no r.first block low)
 
-pub from-some : (runs : List Run) (block i : ℕ) (r : Run) → i ≡ passed_by block runs → i < length runs → r ≡ get_or runs i r
-    → set (drop i runs) 0 (from_block block r) ≡ from block runs
-from-some [] block i r is lt there = absurd (omega (arith, lt))
-from-some (s ∷ rs) block zero r is lt there = split (block_end s) block
+-- the first of them, by how many end before it
+pub first-from : (runs : List Run) (block i : ℕ) (r : Run) → i ≡ passed_by block runs → i < length runs → r ≡ get_or runs i r
+    → first_of (from block runs) ≡ Some (from_block block r)
+first-from [] block i r is lt there = absurd (omega (arith, lt))
+first-from (s ∷ rs) block zero r is lt there = split (block_end s) block
     (λ le. absurd (omega (arith, is, passed-yes s rs block le)))
-    (λ less. ap (λ (t : Run). from_block block t ∷ rs) there ∙ sym (from-less s rs block less))
-from-some (s ∷ rs) block (suc i) r is lt there = split (block_end s) block
-    (λ le. from-some rs block i r (omega (arith, is, passed-yes s rs block le)) (omega (arith, lt)) there ∙ sym (from-yes s rs block le))
+    (λ less. ap first_of (from-less s rs block less) ∙ ap (λ (q : Run). Some (from_block block q)) (sym there))
+first-from (s ∷ rs) block (suc i) r is lt there = split (block_end s) block
+    (λ le. ap first_of (from-yes s rs block le) ∙ first-from rs block i r (omega (arith, is, passed-yes s rs block le)) (omega (arith, lt)) there)
     (λ less. absurd (omega (arith, is, passed-no s rs block less)))
 
-pub from-none : (runs : List Run) (block i : ℕ) → i ≡ passed_by block runs → length runs ≤ i → drop i runs ≡ from block runs
-from-none [] block zero is le = refl
-from-none [] block (suc i) is le = refl
-from-none (s ∷ rs) block zero is le = absurd (omega (arith, le))
-from-none (s ∷ rs) block (suc i) is all = split (block_end s) block
-    (λ le. from-none rs block i (omega (arith, is, passed-yes s rs block le)) (omega (arith, all)) ∙ sym (from-yes s rs block le))
-    (λ less. absurd (omega (arith, is, passed-no s rs block less)))
+pub from-none : (runs : List Run) (block : ℕ) → length runs ≤ passed_by block runs → from block runs ≡ []
+from-none [] block all = refl
+from-none (s ∷ rs) block all = split (block_end s) block
+    (λ le. from-yes s rs block le ∙ from-none rs block (omega (arith, all, passed-yes s rs block le)))
+    (λ less. absurd (omega (arith, all, passed-no s rs block less)))
+
+-- those behind the first
+pub rest-from : (runs : List Run) (block : ℕ) → drop (suc (passed_by block runs)) runs ≡ drop 1 (from block runs)
+rest-from [] block = refl
+rest-from (s ∷ rs) block = split (block_end s) block
+    (λ le. ap (λ (n : ℕ). drop (suc n) (s ∷ rs)) (passed-yes s rs block le) ∙ rest-from rs block ∙ ap (λ (l : List Run). drop 1 l) (sym (from-yes s rs block le)))
+    (λ less. ap (λ (n : ℕ). drop (suc n) (s ∷ rs)) (passed-no s rs block less) ∙ ap (λ (l : List Run). drop 1 l) (sym (from-less s rs block less)))
+
+pub drop_all : (rs : List Run) (i : ℕ) → length rs ≤ i → drop i rs ≡ []
+drop_all [] zero le = refl
+drop_all [] (suc i) le = refl
+drop_all (r ∷ rs) zero le = absurd (omega (arith, le))
+drop_all (r ∷ rs) (suc i) le = drop_all rs i (omega (arith, le))
+
+pub rest-from-by : (runs : List Run) (block stop : ℕ) → stop ≡ min (passed_by block runs + 1) (length runs) → drop stop runs ≡ drop 1 (from block runs)
+rest-from-by runs block stop is = split (length runs) (passed_by block runs)
+    (λ all. drop_all runs stop (omega (arith, is, all)) ∙ ap (λ (l : List Run). drop 1 l) (sym (from-none runs block all)))
+    (λ some.
+    let next : stop ≡ suc (passed_by block runs) = omega (arith, is, some) in
+    ap (λ (n : ℕ). drop n runs) next ∙ rest-from runs block)
 
 -- ---- their number
 
@@ -232,28 +306,43 @@ length-before (r ∷ rs) block = split (block_end r) block
     (λ ge. subst (λ l. length l ≤ suc (length rs)) (sym (before-no r rs block ge less)) (omega arith))
     (λ below. subst (λ l. length l ≤ suc (length rs)) (sym (before-in r rs block below less)) (omega arith)))
 
+-- ---- where a stretch begins and ends
+
+pub length-before-passed : (rs : List Run) (block : ℕ) → length (before block rs) ≤ passed_by block rs + 1
+length-before-passed [] block = omega arith
+length-before-passed (r ∷ rs) block = split (block_end r) block
+    (λ le. omega (arith, ap (λ (l : List Run). length l) (before-yes r rs block le), passed-yes r rs block le, length-before-passed rs block))
+    (λ less. split block r.first
+    (λ ge. omega (arith, ap (λ (l : List Run). length l) (before-no r rs block ge less)))
+    (λ below. omega (arith, ap (λ (l : List Run). length l) (before-in r rs block below less))))
+
+pub passed-rises : (rs : List Run) (first end : ℕ) → first ≤ end → passed_by first rs ≤ passed_by end rs
+passed-rises [] first end le = omega arith
+passed-rises (r ∷ rs) first end le = split (block_end r) first
+    (λ by. omega (arith, passed-yes r rs first by, passed-yes r rs end (omega (arith, by, le)), passed-rises rs first end le))
+    (λ less. omega (arith, passed-no r rs first less))
+
+pub stretch-order : (rs : List Run) (first end stop : ℕ) → first ≤ end → stop ≡ min (passed_by end rs + 1) (length rs) → length (before first rs) ≤ stop
+stretch-order rs first end stop le is =
+    let a : length (before first rs) ≤ passed_by first rs + 1 = length-before-passed rs first in
+    let b : passed_by first rs ≤ passed_by end rs = passed-rises rs first end le in
+    let c : length (before first rs) ≤ length rs = length-before rs first in
+    omega (arith, a, b, c, is)
+
 pub drop_next : (rs : List Run) (i : ℕ) (d : Run) → i < length rs → drop i rs ≡ get_or rs i d ∷ drop (i + 1) rs
 drop_next rs i d lt =
     let e : suc i ≡ i + 1 = omega arith in
     drop-cons rs i d lt ∙ ap (λ (k : ℕ). get_or rs i d ∷ drop k rs) e
-
-pub drop_all : (rs : List Run) (i : ℕ) → length rs ≤ i → drop i rs ≡ []
-drop_all [] zero le = refl
-drop_all [] (suc i) le = refl
-drop_all (r ∷ rs) zero le = absurd (omega (arith, le))
-drop_all (r ∷ rs) (suc i) le = drop_all rs i (omega (arith, le))
-
-take_whole : (rs : List Run) (n : ℕ) → length rs ≤ n → take n rs ≡ rs
-take_whole [] zero le = refl
-take_whole [] (suc n) le = refl
-take_whole (r ∷ rs) zero le = absurd (omega (arith, le))
-take_whole (r ∷ rs) (suc n) le = ap (λ (l : List Run). r ∷ l) (take_whole rs n (omega (arith, le)))
-
-pub rest_whole : (rs : List Run) (i : ℕ) → take (length rs - i) (drop i rs) ≡ drop i rs
-rest_whole rs i = take_whole (drop i rs) (length rs - i) (omega (arith, length-drop i rs))
 
 -- the run that stands somewhere, by any other default
 pub there_at : (rs : List Run) (i : ℕ) (d : Run) → i < length rs → get_or rs i d ≡ get_or rs i (get_or rs i d)
 there_at [] i d lt = absurd (omega (arith, lt))
 there_at (r ∷ rs) zero d lt = refl
 there_at (r ∷ rs) (suc i) d lt = there_at rs i d (omega (arith, lt))
+
+-- what is the same from a place on is so from a later one on
+pub later_drop : (xs ys : List Run) (i j : ℕ) → i ≤ j → drop i xs ≡ drop i ys → drop j xs ≡ drop j ys
+later_drop xs ys i j le same =
+    let sum : j ≡ i + (j - i) = omega (arith, le) in
+    ap (λ (n : ℕ). drop n xs) sum ∙ sym (drop-drop (j - i) i xs) ∙ ap (λ (l : List Run). drop (j - i) l) same
+    ∙ drop-drop (j - i) i ys ∙ sym (ap (λ (n : ℕ). drop n ys) sum)

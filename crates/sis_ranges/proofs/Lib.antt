@@ -1,3 +1,4 @@
+pub mod CallerLemmas
 pub mod CutLemmas
 pub mod JoinLemmas
 pub mod MapLemmas

@@ -1,22 +1,20 @@
 -- Runs and the map for which they stand.
 use Rattle.std.proofs.Common.{◌≡◌, ℕ, zero, suc, ◌+◌, ◌-◌, ◌<◌, ◌≤◌, Bool, true, false, cond, List, [], ◌∷◌, ◌++◌, flat_map, length, None, Some, refl, sym, ap, ap₂, ◌∙◌, arith, length-append}
-use Rattle.std.specs.Prelude.{◌^◌, ◌==◌, ◌&&◌, not, is_some}
+use Rattle.std.specs.Prelude.{◌^◌, nat_lt, not, is_some, Option}
 use Rattle.std.specs.List.{AllByRecursion}
+use Rattle.std.specs.Option.{option_or}
+use Rattle.std.proofs.lemmas.List.{append-nil}
 use Rattle.std.specs.Ordering.{nat_cmp, eq_by_cmp}
 use Rattle.std.specs.declared.cmp.Ordering.{Ordering}
 use Rattle.std.specs.declared.cmp.Ordering.TheVariants.{Less}
 use Rattle.std.proofs.lemmas.Cmp.{nat_cmp_total}
-use Rattle.std.specs.FinMap.{FinMap, entries, from_entries, get, len, find, entries-insert, put, empty, len-entries, len-empty, get-from_entries}
+use Rattle.std.specs.FinMap.{FinMap, entries, from_entries, get, len, find, entries-insert, put, empty, len-entries, len-empty, get-from_entries, get-insert, retain_keys, get-retain_keys, remove, get-remove, same_map, nat_cmp-IsAntisymmetric}
 use Rattle.std.specs.FinMap.Entries.{by_order}
 use Rattle.std.proofs.lemmas.Bool.Decides.{nat_tests}
 use Rattle.sis_ranges.specs.declared.run.Run.{Run}
-use Rattle.sis_ranges.specs.Extents.{block_end, place_end, blocks_from, blocks_of, map_of, joined_front, runs_of_blocks, runs_of, is_mapped, is_gap, can_join, IsApart, AreRuns, IsWithin}
-use Rattle.sis_ranges.specs.Inside.{place_of, blocks_in, AreExtents}
-use Rattle.sis_ranges.proofs.CutLemmas.{split, IsBehind, apart_behind, place_of-in, place_of-past, has_no-low}
-
--- runs that end alike can be joined with the same runs
-pub can_join-same : (r t s : Run) → block_end r ≡ block_end t → place_end r ≡ place_end t → can_join r s ≡ false → can_join t s ≡ false
-can_join-same r t s blocks places h = ap₂ (λ (a b : ℕ). (a == s.first) && (b == s.place)) (sym blocks) (sym places) ∙ h
+use Rattle.sis_ranges.specs.Extents.{block_end, blocks_from, blocks_of, with_entries, with_blocks, in_stretch, map_of, joined_front, runs_of_blocks, runs_of, is_mapped, is_gap, has_block, place_of, IsApart, AreRuns, IsWithin}
+use Rattle.sis_ranges.specs.Inside.{blocks_in, AreExtents}
+use Rattle.sis_ranges.proofs.CutLemmas.{can_join-same, split, IsBehind, apart_behind, place_of-in, place_of-past, has_no-low}
 
 abbrev Blocks : Type 0
 Blocks = List (ℕ × ℕ)
@@ -169,3 +167,50 @@ module _ (read items : List Run) (m : FinMap nat_cmp ℕ) (same : read ≡ items
 
   pub gap_by : (q : ℕ) → place_of read q ≡ None → is_gap m q ≡ true
   gap_by q is = ap not (unmapped_by q is)
+
+-- a map with more blocks
+get-with_entries : (m : FinMap nat_cmp ℕ) (es : Blocks) (q : ℕ) → get (with_entries m es) q ≡ option_or (find nat_cmp q es) (get m q)
+get-with_entries m [] q = refl
+get-with_entries m (e ∷ es) q =
+    get-insert nat_cmp_total (with_entries m es) e.0 e.1 q
+    ∙ ap (cond (eq_by_cmp nat_cmp q e.0) (Some e.1)) (get-with_entries m es q)
+    ∙ elim (eq_by_cmp nat_cmp q e.0) as (λ b. cond b (Some e.1) (option_or (find nat_cmp q es) (get m q)) ≡ option_or (cond b (Some e.1) (find nat_cmp q es)) (get m q)) [ true ↦ refl | false ↦ refl ]
+
+pub get-with_blocks : (m : FinMap nat_cmp ℕ) (r : Run) (q : ℕ) → get (with_blocks m r) q ≡ cond (has_block q r) (Some (r.place + (q - r.first))) (get m q)
+get-with_blocks m r q =
+    get-with_entries m (blocks_of r) q
+    ∙ ap (λ (es : Blocks). option_or (find nat_cmp q es) (get m q)) (sym (append-nil (blocks_of r)))
+    ∙ ap (λ (o : Option ℕ). option_or o (get m q)) (find_blocks (r ∷ []) q)
+    ∙ elim (has_block q r) as (λ b. option_or (cond b (Some (r.place + (q - r.first))) None) (get m q) ≡ cond b (Some (r.place + (q - r.first))) (get m q)) [ true ↦ refl | false ↦ refl ]
+
+-- a map without a stretch, and the front of a map
+pub get-without_stretch : (m : FinMap nat_cmp ℕ) (first count q : ℕ) → get (retain_keys m (λ k. not (in_stretch first count k))) q ≡ cond (in_stretch first count q) None (get m q)
+get-without_stretch m first count q =
+    get-retain_keys m (λ k. not (in_stretch first count k)) q (λ x e. ap (λ (k : ℕ). not (in_stretch first count k)) (sym (nat_cmp-IsAntisymmetric q x e)))
+    ∙ elim (in_stretch first count q) as (λ b. cond (not b) (get m q) None ≡ cond b None (get m q)) [ true ↦ refl | false ↦ refl ]
+
+pub get-front : (m : FinMap nat_cmp ℕ) (block q : ℕ) → get (retain_keys m (λ k. nat_lt k block)) q ≡ cond (nat_lt q block) (get m q) None
+get-front m block q = get-retain_keys m (λ k. nat_lt k block) q (λ x e. ap (λ (k : ℕ). nat_lt k block) (sym (nat_cmp-IsAntisymmetric q x e)))
+
+-- ---- stretches of no blocks and of one
+
+in-none : (first count q : ℕ) → count ≡ 0 → in_stretch first count q ≡ false
+in-none first count q none = grind (arith, nat_tests, none)
+
+in-one : (first q : ℕ) → in_stretch first 1 q ≡ eq_by_cmp nat_cmp q first
+in-one first q = split q first
+    (λ le. split first q
+    (λ ge. grind (arith, nat_tests, le, ge) ∙ sym (equal_yes q first (omega (arith, le, ge))))
+    (λ lt. grind (arith, nat_tests, lt) ∙ sym (equal_less q first lt)))
+    (λ gt. grind (arith, nat_tests, gt) ∙ sym (equal_more q first gt))
+
+pub with_none : (m : FinMap nat_cmp ℕ) (r : Run) → r.count ≡ 0 → m ≡ with_blocks m r
+with_none m r none = ap (λ (n : ℕ). with_entries m (blocks_from r.first n r.place)) (sym none)
+
+pub without_none : (m : FinMap nat_cmp ℕ) (first count : ℕ) → count ≡ 0 → m ≡ retain_keys m (λ k. not (in_stretch first count k))
+without_none m first count none = same_map nat_cmp_total nat_cmp-IsAntisymmetric _ _ (λ q.
+    sym (get-without_stretch m first count q ∙ ap (λ (b : Bool). cond b None (get m q)) (in-none first count q none)))
+
+pub without_one : (m : FinMap nat_cmp ℕ) (block : ℕ) → retain_keys m (λ k. not (in_stretch block 1 k)) ≡ remove m block
+without_one m block = same_map nat_cmp_total nat_cmp-IsAntisymmetric _ _ (λ q.
+    get-without_stretch m block 1 q ∙ ap (λ (b : Bool). cond b None (get m q)) (in-one block q) ∙ sym (get-remove nat_cmp_total m block q))

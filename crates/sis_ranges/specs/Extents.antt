@@ -1,7 +1,7 @@
 -- What `Extents` shows: a map from blocks to places, and its runs.
-use Rattle.std.specs.Prelude.{◌≡◌, ℕ, zero, suc, ◌+◌, ◌<◌, ◌≤◌, ◌^◌, ◌==◌, ◌&&◌, Bool, true, false, not, if◌then◌else◌, List, [], ◌∷◌, flat_map, Option, None, Some}
+use Rattle.std.specs.Prelude.{◌≡◌, ℕ, zero, suc, ◌+◌, ◌-◌, ◌<◌, ◌≤◌, ◌^◌, ◌==◌, ◌&&◌, nat_le, nat_lt, Bool, true, false, not, if◌then◌else◌, List, [], ◌∷◌, flat_map, Option, None, Some}
 use Rattle.std.specs.Ordering.{nat_cmp}
-use Rattle.std.specs.FinMap.{FinMap, from_entries, entries, contains_key}
+use Rattle.std.specs.FinMap.{FinMap, from_entries, entries, contains_key, insert}
 use Rattle.sis_ranges.specs.declared.run.Run.{Run}
 
 -- the block behind the run, and the place behind it
@@ -22,6 +22,28 @@ blocks_of r = blocks_from r.first r.count r.place
 -- the map for which runs stand
 abbrev pub map_of : List Run → FinMap nat_cmp ℕ
 map_of runs = from_entries (flat_map blocks_of runs)
+
+-- a map with these blocks at these places
+abbrev pub with_entries : FinMap nat_cmp ℕ → List (ℕ × ℕ) → FinMap nat_cmp ℕ
+with_entries m [] = m
+with_entries m (e ∷ es) = insert (with_entries m es) e.0 e.1
+
+-- a map with each block of the run at its place there
+abbrev pub with_blocks : FinMap nat_cmp ℕ → Run → FinMap nat_cmp ℕ
+with_blocks m r = with_entries m (blocks_of r)
+
+-- the block is one of so many, from one on
+abbrev pub in_stretch : ℕ → ℕ → ℕ → Bool
+in_stretch first count block = nat_le first block && nat_lt block (first + count)
+
+abbrev pub has_block : ℕ → Run → Bool
+has_block block r = in_stretch r.first r.count block
+
+-- where the first run that has a block puts it
+abbrev pub place_of : List Run → ℕ → Option ℕ
+place_of [] block = None
+place_of (r ∷ rs) block =
+    if has_block block r then Some (r.place + (block - r.first)) else place_of rs block
 
 -- the second run goes on where the first one ends, in blocks and in places
 abbrev pub can_join : Run → Run → Bool

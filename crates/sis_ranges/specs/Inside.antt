@@ -1,27 +1,30 @@
 -- Words that only this crate's private functions cite: runs that are cut and joined.
-use Rattle.std.specs.Prelude.{◌≡◌, ℕ, suc, ◌+◌, ◌-◌, ◌<◌, ◌≤◌, ◌&&◌, nat_le, nat_lt, Bool, if◌then◌else◌, List, [], ◌∷◌, Option, None, Some}
+use Rattle.std.specs.Prelude.{◌≡◌, ℕ, suc, ◌+◌, ◌-◌, ◌<◌, ◌≤◌, min, max, nat_le, nat_lt, if◌then◌else◌, List, [], ◌∷◌, Option, None, Some}
 use Rattle.std.specs.List.{AllByRecursion}
 use Rattle.sis_ranges.specs.declared.run.Run.{Run}
-use Rattle.sis_ranges.specs.Extents.{block_end, can_join, AreRuns, IsWithin}
-
-abbrev pub has_block : ℕ → Run → Bool
-has_block block r = nat_le r.first block && nat_lt block (block_end r)
-
--- where a block lies
-abbrev pub place_of : List Run → ℕ → Option ℕ
-place_of [] block = None
-place_of (r ∷ rs) block =
-    if has_block block r then Some (r.place + (block - r.first)) else place_of rs block
+use Rattle.sis_ranges.specs.Extents.{block_end, can_join, place_of, AreRuns, IsWithin}
 
 -- how many blocks the runs have
 abbrev pub blocks_in : List Run → ℕ
 blocks_in [] = 0
 blocks_in (r ∷ rs) = r.count + blocks_in rs
 
--- what the fields of `Extents` keep
+-- how many blocks of a stretch a run has, and how many the runs have
+abbrev pub shared : ℕ → ℕ → Run → ℕ
+shared first end r = min (block_end r) end - max r.first first
+
+abbrev pub blocks_between : ℕ → ℕ → List Run → ℕ
+blocks_between first end [] = 0
+blocks_between first end (r ∷ rs) = shared first end r + blocks_between first end rs
+
+-- what the runs of `Extents` keep, and what its fields keep
 pub record AreExtents (runs : List Run) : Type 0 where
   pub maximal : AreRuns runs
   pub within : AllByRecursion IsWithin runs
+
+pub record AreCounted (runs : List Run) (blocks : ℕ) : Type 0 where
+  pub extents : AreExtents runs
+  pub count : blocks ≡ blocks_in runs
 
 -- the first run that ends behind a block
 pub record IsNext (runs : List Run) (block : ℕ) (r : Run) : Type 0 where
@@ -81,11 +84,16 @@ abbrev pub with_runs : List Run → List Run → List Run
 with_runs runs [] = runs
 with_runs runs (x ∷ xs) = with_runs (with_run runs x) xs
 
--- the runs with one block at another place, and without one
-abbrev pub with_block : ℕ → ℕ → List Run → List Run
-with_block block place runs =
-    with_runs (with_run (before block runs) (record { first = block; count = 1; place = place }))
-    (from (block + 1) runs)
+-- the first run, where there is one
+abbrev pub first_of : List Run → Option Run
+first_of [] = None
+first_of (r ∷ rs) = Some r
 
-abbrev pub without : ℕ → List Run → List Run
-without block runs = with_runs (before block runs) (from (block + 1) runs)
+-- the runs with one more behind them, where there is one
+abbrev pub with_some : List Run → Option Run → List Run
+with_some runs None = runs
+with_some runs (Some x) = with_run runs x
+
+-- the runs with another one, or none, in place of their blocks from one up to before another
+abbrev pub put_over : ℕ → ℕ → Option Run → List Run → List Run
+put_over first end new runs = with_runs (with_some (before first runs) new) (from end runs)

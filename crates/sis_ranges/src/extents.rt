@@ -1,12 +1,11 @@
 //! A finite map from blocks to places, kept as runs.
-ghost use Rattle.std.specs.Prelude.{◌≡◌, ◌<◌, ◌≤◌, ◌^◌, IfOk, IsOk, OnOk, OnErr, Ok, nat_lt};
+ghost use Rattle.std.specs.Prelude.{◌≡◌, ◌+◌, ◌<◌, ◌≤◌, ◌^◌, IfOk, IsOk, OnOk, OnErr, Ok, nat_lt, not};
 ghost use Rattle.std.specs.List.{AllByRecursion};
 ghost use Rattle.std.specs.FinMap as map;
-ghost use Rattle.sis_ranges.specs.Extents.{AreRuns, IsWithin, IsLeast, is_gap, is_mapped, map_of, runs_of};
+ghost use Rattle.sis_ranges.specs.Extents.{AreRuns, IsWithin, IsLeast, in_stretch, is_gap, is_mapped, map_of, runs_of, with_blocks};
 
 use crate::Run;
-use crate::cutting::{cut, next_run, part, total};
-use crate::joining::{push, push_all};
+use crate::cutting::{between, cut, next_run, replace, total};
 use std::alloc::{AllocError, Global};
 use std::marker::Model;
 
@@ -14,6 +13,8 @@ use std::marker::Model;
 #[derive(Debug, Drop)]
 pub struct Extents {
     runs: Vec<Run>,
+    /// How many blocks the runs have.
+    blocks: u64,
 }
 
 impl Model for Extents {
@@ -22,7 +23,7 @@ impl Model for Extents {
     ghost use Rattle.std.specs.FinMap as map;
     ghost use Rattle.std.specs.Coded.{coded_ℕ};
     ghost use Rattle.sis_ranges.specs.Extents.{map_of};
-    ghost use Rattle.sis_ranges.specs.Inside.{AreExtents};
+    ghost use Rattle.sis_ranges.specs.Inside.{AreCounted};
 
     ghost Value = { map.FinMap nat_cmp ℕ };
 
@@ -30,7 +31,7 @@ impl Model for Extents {
 
     ghost view = { λ a. map_of a.runs.items };
 
-    ghost invariant = { λ a. AreExtents a.runs.items };
+    ghost invariant = { λ a. AreCounted a.runs.items a.blocks };
 }
 
 impl Extents {
@@ -40,7 +41,18 @@ impl Extents {
     {
         Extents {
             runs: Vec::new(alloc),
+            blocks: 0,
         }
+    }
+
+    /// The map for which runs stand. Takes no memory.
+    pub fn from_runs(runs: Vec<Run>) -> Extents
+        requires runs { AreRuns runs.items }
+        requires within { AllByRecursion IsWithin runs.items }
+        ensures { result ≡ map_of runs.items }
+    {
+        let blocks = total(&runs);
+        Extents { runs, blocks }
     }
 
     /// The sorted, disjoint and maximal runs.
@@ -53,11 +65,11 @@ impl Extents {
         &self.runs
     }
 
-    /// How many blocks are mapped, by a sum over the runs.
+    /// How many blocks are mapped.
     pub fn len(&self) -> u64
         ensures { result ≡ map.len self.now }
     {
-        total(&self.runs)
+        self.blocks
     }
 
     /// The place of a block.
@@ -102,16 +114,26 @@ impl Extents {
         ensures ok { OnOk result (self.new ≡ map.insert self.old block place) }
         ensures err { OnErr result (self.new ≡ self.old) }
     {
-        let rest = part(&mut self.runs, block, 1)?;
-        push(
-            &mut self.runs,
-            Run {
-                first: block,
-                count: 1,
-                place,
-            },
-        );
-        push_all(&mut self.runs, &rest);
+        self.set_run(Run {
+            first: block,
+            count: 1,
+            place,
+        })
+    }
+
+    /// Maps the run's blocks to its places, also those that are mapped already.
+    pub fn set_run(&mut self, run: Run) -> Result<(), AllocError>
+        requires { IsWithin run }
+        ensures ok { OnOk result (self.new ≡ with_blocks self.old run) }
+        ensures err { OnErr result (self.new ≡ self.old) }
+    {
+        if run.count == 0 {
+            return Ok(());
+        }
+        let end = run.first + run.count;
+        let gone = between(&self.runs, run.first, end);
+        replace(&mut self.runs, run.first, end, Some(run))?;
+        self.blocks = self.blocks - gone + run.count;
         Ok(())
     }
 
@@ -121,8 +143,23 @@ impl Extents {
         ensures ok { OnOk result (self.new ≡ map.remove self.old block) }
         ensures err { OnErr result (self.new ≡ self.old) }
     {
-        let rest = part(&mut self.runs, block, 0)?;
-        push_all(&mut self.runs, &rest);
+        self.clear_run(block, 1)
+    }
+
+    /// Takes out the blocks of a stretch that are mapped.
+    pub fn clear_run(&mut self, first: u64, count: u64) -> Result<(), AllocError>
+        requires { first + count ≤ 2 ^ 24 }
+        ensures ok { OnOk result
+            (self.new ≡ map.retain_keys self.old (λ k. not (in_stretch first count k))) }
+        ensures err { OnErr result (self.new ≡ self.old) }
+    {
+        if count == 0 {
+            return Ok(());
+        }
+        let end = first + count;
+        let gone = between(&self.runs, first, end);
+        replace(&mut self.runs, first, end, None)?;
+        self.blocks -= gone;
         Ok(())
     }
 
@@ -131,6 +168,7 @@ impl Extents {
         ensures ok { IsOk result }
         ensures map { self.new ≡ map.retain_keys self.old (λ k. nat_lt k block) }
     {
+        self.blocks -= between(&self.runs, block, u64::MAX);
         cut(&mut self.runs, block);
         Ok(())
     }
@@ -141,6 +179,7 @@ impl Extents {
     {
         Ok(Extents {
             runs: self.runs.as_slice().to_vec(alloc)?,
+            blocks: self.blocks,
         })
     }
 }

@@ -9,6 +9,12 @@ const PAIR: Run = Run {
     place: 10,
 };
 
+const LAST: Run = Run {
+    first: 9,
+    count: 1,
+    place: 12,
+};
+
 fn three_blocks(alloc: Global) -> Result<Extents, AllocError> {
     let mut map = Extents::new(alloc);
     map.set(3, 10)?;
@@ -20,12 +26,7 @@ fn three_blocks(alloc: Global) -> Result<Extents, AllocError> {
 #[test]
 fn neighbours_are_one_run(rt: HostRuntime) -> Result<(), Fail> {
     let map = three_blocks(rt.alloc())?;
-    let last = Run {
-        first: 9,
-        count: 1,
-        place: 12,
-    };
-    assert_eq!(rt; map.runs(), [PAIR, last].as_slice());
+    assert_eq!(rt; map.runs(), [PAIR, LAST].as_slice());
     assert_eq!(rt; map.len(), 3);
     assert_eq!(rt; (map.get(4), map.get(5)), (Some(11), None));
     assert_eq!(rt; map.next_gap(3, 20), Some(5));
@@ -59,5 +60,37 @@ fn a_block_in_the_middle_parts_a_run_and_joins_it_again(rt: HostRuntime) -> Resu
     map.clear_from(6)?;
     let whole = map.copy(rt.alloc())?;
     assert_eq!(rt; whole.runs(), [Run { count: 3, ..PAIR }].as_slice());
+    Ok(())
+}
+
+#[test]
+fn stretches_are_mapped_and_cleared(rt: HostRuntime) -> Result<(), Fail> {
+    let mut map = three_blocks(rt.alloc())?;
+    map.set_run(Run {
+        first: 4,
+        count: 6,
+        place: 20,
+    })?;
+    assert_eq!(rt;
+        (map.get(3), map.get(4), map.get(9)),
+        (Some(10), Some(20), Some(25))
+    );
+    assert_eq!(rt; (map.runs().len(), map.len()), (2, 7));
+    map.clear_run(5, 3)?;
+    assert_eq!(rt;
+        (map.get(4), map.get(7), map.get(8)),
+        (Some(20), None, Some(24))
+    );
+    assert_eq!(rt; (map.runs().len(), map.len()), (3, 4));
+    map.clear_from(9)?;
+    assert_eq!(rt; map.len(), 3);
+    Ok(())
+}
+
+#[test]
+fn runs_make_a_map(rt: HostRuntime) -> Result<(), Fail> {
+    let map = Extents::from_runs(Vec::from_slice(rt.alloc(), &[PAIR, LAST])?);
+    assert_eq!(rt; map.runs(), [PAIR, LAST].as_slice());
+    assert_eq!(rt; map.len(), 3);
     Ok(())
 }

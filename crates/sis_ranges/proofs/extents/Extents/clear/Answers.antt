@@ -1,21 +1,9 @@
-use Rattle.std.proofs.Common.{◌≡◌, ℕ, List, sym, ap, ap₂, subst, ◌∙◌}
+use Rattle.std.proofs.Common.{◌≡◌, ℕ, OnOk, subst}
 use Rattle.std.specs.Ordering.{nat_cmp}
-use Rattle.std.specs.FinMap.{FinMap, remove}
-use Rattle.sis_ranges.specs.declared.run.Run.{Run}
-use Rattle.sis_ranges.specs.Extents.{map_of}
-use Rattle.sis_ranges.specs.Inside.{AreExtents, with_runs, without}
-use Rattle.sis_ranges.proofs.PartLemmas.{map_of-without, AreExtents-without}
+use Rattle.std.specs.FinMap.{FinMap}
+use Rattle.sis_ranges.proofs.MapLemmas.{without_one}
 use Rattle.sis_ranges.proofs.extents.Extents.clear.Goals as goal
-
-whole : (c : goal.After-drop-rest) → c.push_all.new.runs.items ≡ without c.args.block c.self.inside.runs.items
-whole c =
-    c.push_all.ensures ∙ ap₂ (λ (x y : List Run). with_runs x y) c.in_ok-rest.ensures.ok
-    (c.deref.ensures.value ∙ c.in_ok-rest.ensures.behind)
-
-pub invariant_of-self-2 : goal.invariant_of-self-2
-invariant_of-self-2 c = subst AreExtents (sym (whole c)) (AreExtents-without c.args.block c.self.inside.runs.items c.self.invariant)
 
 pub returns-clause-ok : goal.returns-clause-ok
 returns-clause-ok c =
-    ap map_of (whole c) ∙ map_of-without c.args.block c.self.inside.runs.items c.self.invariant
-    ∙ ap (λ (m : FinMap nat_cmp ℕ). remove m c.args.block) c.self.view_is
+    subst (λ (m : FinMap nat_cmp ℕ). OnOk c.clear_run.result (c.clear_run.new.self ≡ m)) (without_one c.args.self.now c.args.block) c.clear_run.ensures.ok
