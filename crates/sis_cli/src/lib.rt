@@ -8,8 +8,6 @@ mod files;
 mod laws;
 mod running;
 mod session;
-#[cfg(test)]
-mod tests;
 mod top;
 mod usage;
 mod words;

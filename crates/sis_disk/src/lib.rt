@@ -18,8 +18,6 @@ mod replay;
 mod std_sink;
 mod std_source;
 mod streams;
-#[cfg(test)]
-mod tests;
 
 pub use counter_guids::CounterGuids;
 pub use disk::{Disk, DiskFault};

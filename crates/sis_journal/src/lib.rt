@@ -10,8 +10,6 @@ mod journal;
 mod kept;
 mod opening;
 mod superblock;
-#[cfg(test)]
-mod tests;
 
 pub use fault::{CommitFault, FormatFault, OpenFault};
 pub use journal::Journal;

@@ -1,5 +1,5 @@
 -- Lengths of names: what reading one gave, and that it gives it again.
-use Rattle.std.proofs.Common.{◌≡◌, ℕ, ◌≤◌, ◌%◌, false, Ok, refl, sym, arith}
+use Rattle.std.proofs.Common.{◌≡◌, ℕ, ◌≤◌, ◌%◌, Ok, refl, sym, arith}
 use Rattle.std.proofs.lemmas.Bool.{ne_eqb, eqb-false, ltb-false, le-ltb, or_from, or_parts}
 use Rattle.sis_request.specs.declared.fault.Field.{Field}
 use Rattle.sis_request.specs.declared.fault.RequestFault.TheVariants as faults

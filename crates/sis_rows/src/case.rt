@@ -4,7 +4,7 @@ use crate::fields::{byte, bytes, expanded, number, numbers, pick, quoted};
 use crate::serving::{Given, Limits};
 use crate::show::Show;
 use crate::stops::Look;
-use anyhow::{Result, bail};
+use anyhow::{Result, ensure};
 use std::alloc::{AllocError, Global};
 
 /// A run with its disk, and what is asked of it.
@@ -22,6 +22,10 @@ pub struct Case {
     pub compare: Option<String>,
     /// The name under which the disk's bytes are kept.
     pub keep: Option<String>,
+    /// Whether it is shown what the words plan.
+    pub plan: bool,
+    /// Whether the ends are shown that no case has.
+    pub ends: bool,
     /// Whether the numbers of the history's entries are shown.
     pub entries: bool,
     /// Whether it is shown what stops leave.
@@ -31,7 +35,7 @@ pub struct Case {
     pub fails: bool,
 }
 
-fn add_line(script: &mut Vec<u8>, text: &str) -> Result<(), AllocError> {
+fn add_text(script: &mut Vec<u8>, text: &str) -> Result<(), AllocError> {
     script.extend_from_slice(text.as_bytes())?;
     script.extend_from_slice(b"\n")
 }
@@ -54,12 +58,11 @@ impl Case {
             shows: Vec::new(alloc),
             compare: None,
             keep: None,
+            plan: false,
+            ends: false,
             entries: false,
             stops: false,
-            look: Look {
-                script: Vec::new(alloc),
-                shows: Vec::new(alloc),
-            },
+            look: Look::new(alloc),
             fails: false,
         })
     }
@@ -72,9 +75,9 @@ impl Case {
         let line = expanded(alloc, line)?;
         let line = line.as_str();
         if let Some(text) = line.strip_prefix('|') {
-            add_line(&mut self.given.script, text)?;
+            add_text(&mut self.given.script, text)?;
         } else if let Some(text) = line.strip_prefix('?') {
-            add_line(&mut self.look.script, text)?;
+            add_text(&mut self.look.script, text)?;
         } else if let Some(text) = line.strip_prefix("words") {
             self.given.words = quoted(alloc, text)?;
         } else {
@@ -85,6 +88,15 @@ impl Case {
     }
 
     fn read_words(&mut self, alloc: Global, desk: &Desk, words: &[&str]) -> Result<()> {
+        let is_read = self.read_disk(alloc, desk, words)?
+            || self.read_given(alloc, words)?
+            || self.read_asks(alloc, words)?;
+        ensure!(is_read, "no such line");
+        Ok(())
+    }
+
+    // Reads a line on the disk, and says whether it is one.
+    fn read_disk(&mut self, alloc: Global, desk: &Desk, words: &[&str]) -> Result<bool> {
         match words {
             ["filled", len, text] => {
                 self.image = vec![in alloc; byte(text)?; number(len)? as usize]?;
@@ -95,24 +107,41 @@ impl Case {
             }
             ["goes", "on"] => self.goes_on = true,
             ["at", at, texts @ ..] => lay(&mut self.image, number(at)?, &bytes(alloc, texts)?),
-            ["hex", texts @ ..] => {
-                self.given.script.extend_from_slice(&bytes(alloc, texts)?)?;
-            }
-            ["cut", count] => self.given.cut = number(count)? as usize,
             ["fail", "disk", calls @ ..] => self.disk.fails = numbers(alloc, calls)?,
-            ["fail", "source", calls @ ..] => self.given.source = numbers(alloc, calls)?,
-            ["fail", "sink", calls @ ..] => self.given.sink.fails = numbers(alloc, calls)?,
             ["room", "disk", len] => self.disk.room = number(len)?,
-            ["room", "sink", len] => self.given.sink.room = number(len)?,
+            _ => return Ok(false),
+        }
+        Ok(true)
+    }
+
+    // The same of a line on what else the run is given.
+    fn read_given(&mut self, alloc: Global, words: &[&str]) -> Result<bool> {
+        let given = &mut self.given;
+        match words {
+            ["hex", texts @ ..] => given.script.extend_from_slice(&bytes(alloc, texts)?)?,
+            ["cut", count] => given.cut = number(count)? as usize,
+            ["fail", "source", calls @ ..] => given.source = numbers(alloc, calls)?,
+            ["fail", "sink", calls @ ..] => given.sink.fails = numbers(alloc, calls)?,
+            ["room", "sink", len] => given.sink.room = number(len)?,
+            _ => return Ok(false),
+        }
+        Ok(true)
+    }
+
+    // The same of a line on what is asked.
+    fn read_asks(&mut self, alloc: Global, words: &[&str]) -> Result<bool> {
+        match words {
             ["show", at, lens @ ..] => self.shows.push(Show::read(alloc, at, lens)?)?,
             ["look", at, lens @ ..] => self.look.shows.push(Show::read(alloc, at, lens)?)?,
             ["compare", name] => self.compare = Some(String::from_str(alloc, name)?),
             ["keep", name] => self.keep = Some(String::from_str(alloc, name)?),
+            ["plan"] => self.plan = true,
+            ["ends"] => self.ends = true,
             ["entries"] => self.entries = true,
             ["stops"] => self.stops = true,
             ["fails"] => self.fails = true,
-            _ => bail!("no such line"),
+            _ => return Ok(false),
         }
-        Ok(())
+        Ok(true)
     }
 }

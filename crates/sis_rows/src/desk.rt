@@ -4,7 +4,7 @@ use crate::report::report;
 use crate::serving::{disk_of, serve};
 use anyhow::{Context, Result, bail};
 use sis_disk::{Memory, Pick};
-use std::alloc::Global;
+use std::alloc::{AllocError, Global};
 use std::collections::BTreeMap;
 
 /// Images with names, and the disk that the case before left.
@@ -68,12 +68,17 @@ impl Desk {
         let before = disk.bytes().to_vec(alloc)?;
         let left = serve(alloc, &case.given, disk)?;
         let came = report(alloc, self, case, &before, &left)?;
-        if let Some(name) = &case.keep {
-            let image = left.disk.bytes().to_vec(alloc)?;
-            let name = String::from_str(alloc, name.as_str())?;
-            self.images.insert(name, image)?;
-        }
+        self.keep(alloc, case, left.disk.bytes())?;
         self.disk = Some(left.disk);
         Ok(came)
+    }
+
+    // Keeps an image, where the case gives it a name.
+    fn keep(&mut self, alloc: Global, case: &Case, image: &[u8]) -> Result<(), AllocError> {
+        if let Some(name) = &case.keep {
+            let name = String::from_str(alloc, name.as_str())?;
+            self.images.insert(name, image.to_vec(alloc)?)?;
+        }
+        Ok(())
     }
 }

@@ -63,6 +63,13 @@ pub fn expanded(alloc: Global, line: &str) -> Result<String> {
     Ok(all)
 }
 
+/// Adds a line of those that stand behind a case.
+pub fn add_line(out: &mut String, line: &str) -> Result<(), AllocError> {
+    out.push_str("> ")?;
+    out.push_str(line)?;
+    out.push_str("\n")
+}
+
 /// Adds a text to others, with a gap before it.
 pub fn add(texts: &mut String, gap: &str, text: &str) -> Result<(), AllocError> {
     if !texts.is_empty() {

@@ -11,6 +11,7 @@ mod report;
 mod serving;
 mod show;
 mod stops;
+mod words;
 
 use anyhow::Result;
 use desk::Desk;
@@ -22,10 +23,10 @@ fn main(rt: HostRuntime) -> Result<()> {
     let mut desk = Desk::new(alloc);
     for (index, block) in input.as_str().trim_end().split("\n\n").enumerate() {
         if index > 0 {
-            println!(&rt; "")?;
+            rt.println("")?;
         }
-        let came = desk.run(alloc, block)?;
-        print!(&rt; "{block}\n{came}")?;
+        rt.println(block)?;
+        rt.print(desk.run(alloc, block)?)?;
     }
     Ok(())
 }

@@ -95,17 +95,20 @@ fn counts_of(alloc: Global, history: &History) -> Result<Vec<Counts>, AllocError
     Ok(entries)
 }
 
-/// Serves the words on a disk.
-pub fn serve(alloc: Global, given: &Given, disk: Memory) -> Result<Left, AllocError> {
-    let mut words = Vec::new(alloc);
-    for word in &given.words {
-        words.push(word.as_str())?;
+/// Lends the words.
+pub fn as_strs(alloc: Global, words: &[String]) -> Result<Vec<&str>, AllocError> {
+    let mut strs = Vec::new(alloc);
+    for word in words {
+        strs.push(word.as_str())?;
     }
-    let mut input = MemorySource::new(
-        given.script.to_vec(alloc)?,
-        given.cut.max(1),
-        given.source.to_vec(alloc)?,
-    );
+    Ok(strs)
+}
+
+/// Serves the words on a disk. A run that ends for want of memory is none.
+pub fn serve(alloc: Global, given: &Given, disk: Memory) -> Result<Left, AllocError> {
+    let words = as_strs(alloc, &given.words)?;
+    let script = given.script.to_vec(alloc)?;
+    let mut input = MemorySource::new(script, given.cut.max(1), given.source.to_vec(alloc)?);
     let mut out = MemorySink::new(alloc, given.sink.fails.to_vec(alloc)?, given.sink.room)?;
     let guids = CounterGuids::new(1);
     let Outcome {
@@ -113,6 +116,9 @@ pub fn serve(alloc: Global, given: &Given, disk: Memory) -> Result<Left, AllocEr
         history,
         disk,
     } = run(alloc, &words, disk, &mut input, &mut out, guids);
+    if status == Exit::Memory {
+        return Err(AllocError);
+    }
     Ok(Left {
         exit: status,
         entries: counts_of(alloc, &history)?,

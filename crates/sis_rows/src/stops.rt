@@ -1,20 +1,38 @@
 //! What stops leave.
-use crate::fields::add;
-use crate::serving::{Given, Limits, disk_of, serve};
+use crate::fields::{add, add_line};
+use crate::serving::{Given, Left, Limits, disk_of, serve};
 use crate::show::Show;
 use anyhow::Result;
 use sis_cli::Exit;
 use sis_disk::{Disk, Memory, Pick};
 use std::alloc::{AllocError, Global};
-use std::fmt::Write;
 
 /// How an image is looked at that a stop left.
 #[derive(Drop)]
 pub struct Look {
-    /// The script that is run on it. An empty one stands for `1 list`.
+    /// The script that is run on it.
     pub script: Vec<u8>,
     /// Which of its bytes are shown.
     pub shows: Vec<Show>,
+}
+
+impl Look {
+    /// No script, and no bytes.
+    pub fn new(alloc: Global) -> Look {
+        Look {
+            script: Vec::new(alloc),
+            shows: Vec::new(alloc),
+        }
+    }
+
+    // The script, or `1 list` where there is none.
+    fn script(&self) -> &[u8] {
+        if self.script.is_empty() {
+            b"1 list"
+        } else {
+            &self.script
+        }
+    }
 }
 
 // The picks of images that a stop after so many calls leaves: three that are filled with a byte,
@@ -53,22 +71,23 @@ fn shown_of(line: &str) -> Option<&str> {
     }
 }
 
-// What an image shows, in one line.
-fn shown(alloc: Global, image: &[u8], look: &Look) -> Result<String> {
-    let script = if look.script.is_empty() {
-        b"1 list"
-    } else {
-        look.script.as_slice()
-    };
-    let given = Given::exec(alloc, script)?;
-    let left = serve(alloc, &given, disk_of(alloc, image, &Limits::new(alloc))?)?;
+// What a run's printed lines show, and its exit where it didn't end well.
+fn shown_by(alloc: Global, left: &Left) -> Result<String, AllocError> {
     let mut text = String::new(alloc);
     if left.exit != Exit::Done {
-        write!(text, "{}", left.exit)?;
+        add(&mut text, "", left.exit.to_string(alloc)?.as_str())?;
     }
     for line in left.printed.as_str().lines().filter_map(shown_of) {
         add(&mut text, ", ", line)?;
     }
+    Ok(text)
+}
+
+// What an image shows, in one line.
+fn shown(alloc: Global, image: &[u8], look: &Look) -> Result<String> {
+    let given = Given::exec(alloc, look.script())?;
+    let left = serve(alloc, &given, disk_of(alloc, image, &Limits::new(alloc))?)?;
+    let mut text = shown_by(alloc, &left)?;
     for show in &look.shows {
         add(&mut text, ", ", show.text(alloc, image)?.as_str())?;
     }
@@ -91,17 +110,18 @@ fn shown_after(alloc: Global, disk: &Memory, calls: u64, look: &Look) -> Result<
     Ok(all)
 }
 
-fn stop_line(out: &mut String, first: u64, last: u64, text: &str) -> Result<(), AllocError> {
+// What is shown after these numbers of calls.
+fn stop_line(alloc: Global, first: u64, last: u64, text: &str) -> Result<String, AllocError> {
     if first == last {
-        writeln!(out, "> stop after {first}: {text}")
+        format!(in alloc; "stop after {first}: {text}")
     } else {
-        writeln!(out, "> stop after {first} to {last}: {text}")
+        format!(in alloc; "stop after {first} to {last}: {text}")
     }
 }
 
 /// Adds what the images show that stops leave, from so many calls on. Numbers of calls after which
 /// they show the same have one line.
-pub fn stop_lines(
+pub fn add_stops(
     alloc: Global,
     out: &mut String,
     disk: &Memory,
@@ -109,16 +129,16 @@ pub fn stop_lines(
     look: &Look,
 ) -> Result<()> {
     let (mut first, mut last) = (from, from);
-    let mut text = String::new(alloc);
-    for calls in from..=disk.calls() {
+    let mut text = shown_after(alloc, disk, from, look)?;
+    for calls in (from..=disk.calls()).skip(1) {
         let next = shown_after(alloc, disk, calls, look)?;
-        if calls > from && next != text {
-            stop_line(out, first, last, text.as_str())?;
+        if next != text {
+            add_line(out, stop_line(alloc, first, last, text.as_str())?.as_str())?;
             first = calls;
+            text = next;
         }
-        text = next;
         last = calls;
     }
-    stop_line(out, first, last, text.as_str())?;
+    add_line(out, stop_line(alloc, first, last, text.as_str())?.as_str())?;
     Ok(())
 }

@@ -8,7 +8,6 @@ pub use Rattle.sis_disk.proofs.Bytes.{IsBytes, IsBytes-drop, bytes_again}
 use Rattle.sis_disk.specs.declared.layout.TableKind.TheVariants as kinds
 use Rattle.sis_table.specs.Reading.{Fault, number_at, here}
 use Rattle.sis_reading.specs.Steps.{◌>>=◌}
-use Rattle.sis_reading.specs.Steps.{guard}
 use Rattle.sis_reading.proofs.StepLemmas.{bind_ok, bind_again, guarded}
 
 -- what a reader took from the front

@@ -10,8 +10,6 @@ mod node;
 mod reading;
 mod runs;
 mod table;
-#[cfg(test)]
-mod tests;
 mod undo;
 mod writing;
 

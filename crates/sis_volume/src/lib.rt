@@ -11,8 +11,6 @@ mod laws;
 mod opening;
 mod room;
 mod staging;
-#[cfg(test)]
-mod tests;
 mod txn;
 mod volume;
 
