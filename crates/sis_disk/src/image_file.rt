@@ -63,7 +63,9 @@ impl<F: FileExt + OpenFile + Drop> ImageFile<F> {
         Ok(())
     }
 
+    // What a call is answered that had this outcome.
     fn end(&mut self, outcome: io::Result<()>) -> Result<(), DiskFault>
+        ensures outcome { is_err result ≡ is_err outcome }
         ensures ok { OnOk result (self.new ≡ self.old) }
         ensures err { OnErr result
             (self.new ≡ record self.old { faults = raised self.old.faults }) }
@@ -72,6 +74,21 @@ impl<F: FileExt + OpenFile + Drop> ImageFile<F> {
             Ok(()) => Ok(()),
             Err(_) => Err(self.fault()),
         }
+    }
+
+    // The same for a sync. One that failed is noted.
+    fn end_sync(&mut self, outcome: io::Result<()>) -> Result<(), DiskFault>
+        ensures outcome { is_err result ≡ is_err outcome }
+        ensures ok { OnOk result (self.new ≡ self.old) }
+        ensures err { OnErr result (self.new ≡ record self.old {
+          faults = raised self.old.faults;
+          sync_failed = true;
+        }) }
+    {
+        if outcome.is_err() {
+            self.sync_failed = true;
+        }
+        self.end(outcome)
     }
 }
 
@@ -161,7 +178,10 @@ impl<F: FileExt + OpenFile + Drop> Disk for ImageFile<F> {
               faults = self.new.faults;
               told = None;
             }) }
-        // Behind one that failed it is refused. One that is made and fails is noted.
+        // Behind one that failed it is refused, and else only where no number is left for it. One that
+        // is made and answered with an error is noted.
+        ensures made { OnErr result ((self.old.sync_failed ≡ true) ⊎ (self.old.calls ≡ 2 ^ 64 - 1)
+            ⊎ (self.new.calls ≡ self.old.calls + 1)) }
         ensures refused { self.old.sync_failed ≡ true → (is_err result ≡ true)
             × (self.new ≡ record self.old { faults = raised self.old.faults }) }
         ensures noted { OnErr result ((self.old.calls ≡ 2 ^ 64 - 1)
@@ -172,10 +192,7 @@ impl<F: FileExt + OpenFile + Drop> Disk for ImageFile<F> {
             return Err(self.fault());
         }
         self.begin()?;
-        if self.file.sync_data().is_err() {
-            self.sync_failed = true;
-            return Err(self.fault());
-        }
-        Ok(())
+        let outcome = self.file.sync_data();
+        self.end_sync(outcome)
     }
 }
