@@ -1,5 +1,5 @@
 -- What fetching lends, and what it leaves.
-use Rattle.std.specs.Prelude.{◌≡◌, ℕ, ◌+◌, ◌*◌, ◌≤◌, List, slice_range, Option, Result, OnErr}
+use Rattle.std.specs.Prelude.{◌≡◌, ℕ, ◌+◌, ◌*◌, ◌≤◌, List, slice_range, Option, Result, OnErr, OnOk}
 use Rattle.std.specs.List.{AllByRecursion}
 use Rattle.std.specs.Option.{option_map}
 use Rattle.sis_disk.specs.Record.{Call, Reads, Writes, Syncs, Seen, Rose, live_of, state_of}
@@ -28,7 +28,9 @@ pub record OnlyReads (most : ℕ) (old new : Seen) : Type 0 where
   pub live : live_of new ≡ live_of old
   pub loose : loose_of new ≡ loose_of old
 
--- What a fetch leaves. Where it failed, the count of faults rose.
+-- What a fetch leaves. The count of faults rises by one where it failed, and else stands still.
 pub record Fetched {T E : Type 0} (most : ℕ) (result : Result T E) (old new : Seen) : Type 0 where
   pub reads : OnlyReads most old new
   pub cause : OnErr result (Rose old.faults new.faults)
+  pub once : OnErr result (new.faults ≤ old.faults + 1)
+  pub quiet : OnOk result (new.faults ≡ old.faults)

@@ -26,6 +26,8 @@ pub fn read_block<D: Disk>(disk: &mut D, block: u64, into: &mut [u8]) -> Result<
         (λ live. into.new ≡ block_of live block)) }
     ensures reads { OnlyReads 1 (D.seen disk.old) (D.seen disk.new) }
     ensures cause { OnErr result (Rose (D.seen disk.old).faults (D.seen disk.new).faults) }
+    ensures once { OnErr result ((D.seen disk.new).faults ≤ (D.seen disk.old).faults + 1) }
+    ensures quiet { OnOk result ((D.seen disk.new).faults ≡ (D.seen disk.old).faults) }
 {
     let at = start_of(disk, block);
     disk.read(at, into)?;
@@ -47,6 +49,8 @@ pub fn read_two<D: Disk>(
         (λ live. buffers.new.second.items ≡ block_of live b)) }
     ensures reads { OnlyReads 2 (D.seen disk.old) (D.seen disk.new) }
     ensures cause { OnErr result (Rose (D.seen disk.old).faults (D.seen disk.new).faults) }
+    ensures once { OnErr result ((D.seen disk.new).faults ≤ (D.seen disk.old).faults + 1) }
+    ensures quiet { OnOk result ((D.seen disk.new).faults ≡ (D.seen disk.old).faults) }
 {
     read_block(disk, a, &mut buffers.first)?;
     read_block(disk, b, &mut buffers.second)
