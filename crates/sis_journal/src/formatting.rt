@@ -81,7 +81,7 @@ impl Journal {
         ensures stable { OnOk result (Now (λ s. s.loose ≡ []) (D.seen disk.new)) }
         ensures synced { OnOk result (IfSome (D.seen disk.new).told EndsInSync) }
         // These are its first bytes, and those behind them are the old ones. Also after an error either
-        // these are the first ones, or no byte has changed.
+        // these are the first ones, or no live byte has changed.
         ensures bytes { OnOk result (live_of (D.seen disk.new)
             ≡ option_map (λ live. laid live 0 (new_blocks layout (K.text value.now)))
             (live_of (D.seen disk.old))) }
