@@ -16,6 +16,7 @@ mod bytes;
 mod command;
 mod history;
 mod names;
+mod range;
 mod reply;
 #[cfg(test)]
 mod tests;
@@ -25,6 +26,7 @@ pub use bytes::Bytes;
 pub use command::Command;
 pub use history::{Entry, History, Line};
 pub use names::NameList;
+pub use range::ByteRange;
 pub use reply::{Fate, GrovelReport, Hindrance, Kind, LimitKind, Reply};
 pub use sis_request::{Field, RequestFault};
 pub use unsettled::{UnsettledFile, UnsettledList};
