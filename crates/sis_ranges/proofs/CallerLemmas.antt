@@ -56,12 +56,12 @@ pub map_of-runs_of : (m : FinMap nat_cmp ℕ) → map_of (runs_of m) ≡ m
 map_of-runs_of m = same_map nat_cmp_total nat_cmp-IsAntisymmetric _ _ (λ q. get-map_of (runs_of m) q ∙ place_of-runs_of m q)
 
 -- the blocks rise
-abbrev IsRising : List (ℕ × ℕ) → Type 0
+abbrev pub IsRising : List (ℕ × ℕ) → Type 0
 IsRising [] = Unit {0}
 IsRising (e ∷ []) = Unit {0}
 IsRising (e ∷ f ∷ es) = (e.0 < f.0) × IsRising (f ∷ es)
 
-rises : (es : List (ℕ × ℕ)) → is_sorted nat_cmp es ≡ true → IsRising es
+pub rises : (es : List (ℕ × ℕ)) → is_sorted nat_cmp es ≡ true → IsRising es
 rises [] is = tt
 rises (e ∷ []) is = tt
 rises (e ∷ f ∷ es) is = (less e.0 f.0 (left _ _ (left _ _ is)), rises (f ∷ es) (right _ _ is))

@@ -113,6 +113,20 @@ passed-true rs block i d h lt is = passed-more rs block i d h lt (grind (arith, 
 pub passed-false : (rs : List Run) (block i : ℕ) (d : Run) → i < length rs → nat_le (block_end (get_or rs i d)) block ≡ false → passed_by block rs ≤ i
 passed-false rs block i d lt is = passed-less rs block i d lt (grind (arith, nat_tests, is))
 
+-- the next run doesn't go on where one ends
+ends_there : (r : Run) (rs : List Run) → AreRuns (r ∷ rs) → place_of rs (block_end r) ≡ Some (place_end r) → ⊥
+ends_there r [] h is = absurd cc
+ends_there r (s ∷ rs) h is = split s.first (block_end r)
+    (λ le.
+    let here : block_end r ≡ s.first = omega (arith, le, h.1.0) in
+    let place : Some (s.place + (block_end r - s.first)) ≡ Some (place_end r) = sym (place_of-in s rs (block_end r) le (omega (arith, here, h.2.0))) ∙ is in
+    let same : s.place + (block_end r - s.first) ≡ place_end r = cc in
+    let there : s.place ≡ place_end r = omega (arith, same, here) in
+    let joined : can_join r s ≡ true = grind (arith, nat_tests, here, there) in
+    let none : can_join r s ≡ false = h.1.1 in
+    cc)
+    (λ lt. let none = place_of-low (s ∷ rs) (block_end r) s.first h.2 (omega arith) lt in cc)
+
 -- the run behind those that end by a block
 pub next_at : (runs : List Run) (block i : ℕ) (d : Run) → AreRuns runs → AllByRecursion IsWithin runs → i ≡ passed_by block runs → i < length runs → IsNext runs block (get_or runs i d)
 next_at [] block i d h within is lt = absurd (omega (arith, lt))
@@ -124,6 +138,7 @@ next_at (r ∷ rs) block zero d h within is lt = split (block_end r) block
       within = within.0;
       low = λ q ge below. place_of-low (r ∷ rs) q r.first h (omega arith) below;
       mapped = λ q ge below. place_of-in r rs q ge below;
+      whole = λ is. ends_there r rs h (sym (place_of-past r rs (block_end r) (omega arith)) ∙ is);
     })
 next_at (r ∷ rs) block (suc i) d h within is lt = split (block_end r) block
     (λ le.
@@ -135,6 +150,7 @@ next_at (r ∷ rs) block (suc i) d h within is lt = split (block_end r) block
       within = n.within;
       low = λ q ge below. place_of-past r rs q (omega (arith, le, ge)) ∙ n.low q ge below;
       mapped = λ q ge below. place_of-past r rs q (omega (arith, sooner, ge)) ∙ n.mapped q ge below;
+      whole = λ is. n.whole (sym (place_of-past r rs (block_end (get_or rs i d)) (omega (arith, sooner))) ∙ is);
     })
     (λ less. absurd (omega (arith, is, passed-no r rs block less)))
 

@@ -3,3 +3,4 @@ pub mod CutLemmas
 pub mod JoinLemmas
 pub mod MapLemmas
 pub mod PartLemmas
+pub mod PlaceLemmas

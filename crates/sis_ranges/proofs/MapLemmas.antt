@@ -1,6 +1,6 @@
 -- Runs and the map for which they stand.
-use Rattle.std.proofs.Common.{◌≡◌, ℕ, zero, suc, ◌+◌, ◌-◌, ◌<◌, ◌≤◌, Bool, true, false, cond, List, [], ◌∷◌, ◌++◌, flat_map, length, None, Some, refl, sym, ap, ap₂, ◌∙◌, arith, length-append}
-use Rattle.std.specs.Prelude.{◌^◌, nat_lt, not, is_some, Option}
+use Rattle.std.proofs.Common.{◌≡◌, ℕ, zero, suc, ◌+◌, ◌-◌, ◌<◌, ◌≤◌, Bool, true, false, cond, List, [], ◌∷◌, ◌++◌, flat_map, length, None, Some, refl, sym, ap, ap₂, ◌∙◌, subst, arith, length-append}
+use Rattle.std.specs.Prelude.{◌^◌, min, nat_lt, not, is_some, Option}
 use Rattle.std.specs.List.{AllByRecursion}
 use Rattle.std.specs.Option.{option_or}
 use Rattle.std.proofs.lemmas.List.{append-nil}
@@ -12,9 +12,9 @@ use Rattle.std.specs.FinMap.{FinMap, entries, from_entries, get, len, find, entr
 use Rattle.std.specs.FinMap.Entries.{by_order}
 use Rattle.std.proofs.lemmas.Bool.Decides.{nat_tests}
 use Rattle.sis_ranges.specs.declared.run.Run.{Run}
-use Rattle.sis_ranges.specs.Extents.{block_end, blocks_from, blocks_of, with_entries, with_blocks, in_stretch, map_of, joined_front, runs_of_blocks, runs_of, is_mapped, is_gap, has_block, place_of, IsApart, AreRuns, IsWithin}
-use Rattle.sis_ranges.specs.Inside.{blocks_in, AreExtents}
-use Rattle.sis_ranges.proofs.CutLemmas.{can_join-same, split, IsBehind, apart_behind, place_of-in, place_of-past, has_no-low}
+use Rattle.sis_ranges.specs.Extents.{IsPart, block_end, place_end, blocks_from, blocks_of, with_entries, with_blocks, in_stretch, map_of, joined_front, runs_of_blocks, runs_of, is_mapped, is_gap, has_block, place_of, IsApart, AreRuns, IsWithin}
+use Rattle.sis_ranges.specs.Inside.{blocks_in, from_block, run_from, AreExtents, IsNext}
+use Rattle.sis_ranges.proofs.CutLemmas.{can_join-same, lt_no, lt_yes, split, IsBehind, apart_behind, place_of-in, place_of-past, has_no-low}
 
 abbrev Blocks : Type 0
 Blocks = List (ℕ × ℕ)
@@ -167,6 +167,35 @@ module _ (read items : List Run) (m : FinMap nat_cmp ℕ) (same : read ≡ items
 
   pub gap_by : (q : ℕ) → place_of read q ≡ None → is_gap m q ≡ true
   gap_by q is = ap not (unmapped_by q is)
+
+  -- the next run from a block on, up to before another
+  pub part_by : (from below : ℕ) (n : Run) → IsNext read from n → n.first < below → from < below
+      → IsPart m from below (record { first = (from_block from n).first; count = min (from_block from n).count (below - (from_block from n).first); place = (from_block from n).place })
+  part_by from below n next lt less = split from n.first
+      (λ ge. part n (same_block ge) (omega arith) ge lt (omega (arith, next.some)) refl (omega arith) (λ q from_q to_q. to_q))
+      (λ low. part (run_from from n) (later_block low) (omega (arith, low)) (omega arith) less next.later (omega (arith, low, next.later)) refl (λ q from_q to_q. omega (arith, from_q, to_q)))
+    where
+      same_block : from ≤ n.first → from_block from n ≡ n
+      same_block ge = ap (λ (b : Bool). cond b (run_from from n) n) (lt_no n.first from ge)
+
+      later_block : n.first < from → from_block from n ≡ run_from from n
+      later_block low = ap (λ (b : Bool). cond b (run_from from n) n) (lt_yes n.first from low)
+
+      part : (r : Run) → from_block from n ≡ r → n.first ≤ r.first → from ≤ r.first → r.first < below → r.first < block_end n → block_end r ≡ block_end n → r.place ≡ n.place + (r.first - n.first)
+          → ((q : ℕ) → from ≤ q → q < r.first → q < n.first)
+          → IsPart m from below (record { first = (from_block from n).first; count = min (from_block from n).count (below - (from_block from n).first); place = (from_block from n).place })
+      part r is ge low high starts ends place none = subst (λ (x : Run). IsPart m from below (record { first = x.first; count = min x.count (below - x.first); place = x.place })) (sym is) (record {
+        some = omega (arith, ends, starts, high);
+        low = low;
+        high = omega (arith, high);
+        gap = λ q from_q to_q. get_by read items m q same view ∙ next.low q from_q (none q from_q to_q);
+        mapped = λ q from_q to_q. get_by read items m q same view ∙ next.mapped q (omega (arith, ge, from_q)) (omega (arith, ends, to_q)) ∙ ap (λ (k : ℕ). Some k) (omega (arith, place, ge, from_q));
+        whole = λ more is.
+            let count : min r.count (below - r.first) ≡ r.count = omega (arith, more) in
+            let blocks : r.first + min r.count (below - r.first) ≡ block_end n = omega (arith, count, ends) in
+            let places : r.place + min r.count (below - r.first) ≡ place_end n = omega (arith, count, ends, place, ge) in
+            next.whole (ap (λ (k : ℕ). place_of read k) (sym blocks) ∙ sym (get_by read items m (r.first + min r.count (below - r.first)) same view) ∙ is ∙ ap (λ (k : ℕ). Some k) places);
+      })
 
 -- a map with more blocks
 get-with_entries : (m : FinMap nat_cmp ℕ) (es : Blocks) (q : ℕ) → get (with_entries m es) q ≡ option_or (find nat_cmp q es) (get m q)

@@ -1,8 +1,9 @@
 -- Runs with others in place of some, and what map they stand for.
-use Rattle.std.proofs.Common.{◌≡◌, ℕ, zero, suc, ◌+◌, ◌-◌, ◌<◌, ◌≤◌, Bool, cond, List, [], ◌∷◌, length, drop, get_or, Option, None, Some, refl, sym, ap, ap₂, ◌∙◌, subst, arith}
-use Rattle.std.specs.Prelude.{◌^◌, nat_lt, not, IfSome}
+use Rattle.std.proofs.Common.{◌≡◌, ℕ, zero, suc, ◌+◌, ◌-◌, ◌<◌, ◌≤◌, Bool, true, false, cond, List, [], ◌∷◌, length, drop, get_or, Option, None, Some, refl, sym, ap, ap₂, ◌∙◌, subst, arith}
+use Rattle.std.specs.Prelude.{◌^◌, min, nat_lt, not, IfSome}
 use Rattle.std.specs.List.{AllByRecursion}
 use Rattle.std.specs.Option.{option_or}
+use Rattle.std.proofs.lemmas.Bool.Decides.{nat_tests}
 use Rattle.std.proofs.lemmas.Cmp.{nat_cmp_total}
 use Rattle.std.specs.FinMap.{retain_keys, same_map, nat_cmp-IsAntisymmetric}
 use Rattle.sis_ranges.specs.declared.run.Run.{Run}
@@ -308,6 +309,35 @@ map_of-clear first count runs h = same_map nat_cmp_total nat_cmp-IsAntisymmetric
     get-map_of (put_over first (first + count) None runs) q
     ∙ place_of-clear first count runs q h
     ∙ sym (get-without_stretch (map_of runs) first count q ∙ ap (cond (in_stretch first count q) None) (get-map_of runs q)))
+
+-- no block is mapped at the limit or behind it
+place_of-limit : (rs : List Run) (q : ℕ) → AllByRecursion IsWithin rs → 2 ^ 24 ≤ q → place_of rs q ≡ None
+place_of-limit [] q within le = refl
+place_of-limit (r ∷ rs) q within le = place_of-past r rs q (omega (arith, le, within.0.blocks)) ∙ place_of-limit rs q within.1 le
+
+either_none : (b c : Bool) (o : Option ℕ) → o ≡ None → cond b None o ≡ cond c None o
+either_none b c o none = either b ∙ sym (either c)
+  where
+    either : (b : Bool) → ◌≡◌ {A = Option ℕ} (cond b None o) None
+    either true = refl
+    either false = none
+
+module _ (first count end : ℕ) (runs : List Run) (fits : first < 2 ^ 64) (is : end ≡ min (first + count) (2 ^ 64 - 1)) (h : AreExtents runs) where
+  place_of-cut : (q : ℕ) → place_of (put_over first end None runs) q ≡ cond (in_stretch first count q) None (place_of runs q)
+  place_of-cut q =
+      let sum : end ≡ first + (end - first) = omega (arith, fits, is) in
+      ap (λ (n : ℕ). place_of (put_over first n None runs) q) sum
+      ∙ place_of-clear first (end - first) runs q h.maximal
+      ∙ split (2 ^ 24) q
+      (λ ge. either_none (in_stretch first (end - first) q) (in_stretch first count q) (place_of runs q) (place_of-limit runs q h.within ge))
+      (λ lt. ap (λ (b : Bool). cond b None (place_of runs q)) (grind (arith, nat_tests, lt, fits, is)))
+
+  -- a stretch that is cut at the greatest number of 64 bits
+  pub map_of-cut : map_of (put_over first end None runs) ≡ retain_keys (map_of runs) (λ k. not (in_stretch first count k))
+  map_of-cut = same_map nat_cmp_total nat_cmp-IsAntisymmetric _ _ (λ q.
+      get-map_of (put_over first end None runs) q
+      ∙ place_of-cut q
+      ∙ sym (get-without_stretch (map_of runs) first count q ∙ ap (cond (in_stretch first count q) None) (get-map_of runs q)))
 
 -- what a run must be to be put in place of a stretch
 abbrev pub Fills : ℕ → ℕ → Option Run → Type 0

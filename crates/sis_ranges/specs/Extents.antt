@@ -1,7 +1,8 @@
 -- What `Extents` shows: a map from blocks to places, and its runs.
-use Rattle.std.specs.Prelude.{◌≡◌, ℕ, zero, suc, ◌+◌, ◌-◌, ◌<◌, ◌≤◌, ◌^◌, ◌==◌, ◌&&◌, nat_le, nat_lt, Bool, true, false, not, if◌then◌else◌, List, [], ◌∷◌, flat_map, Option, None, Some}
+use Rattle.std.specs.Prelude.{◌≡◌, ◌≢◌, ℕ, zero, suc, ◌+◌, ◌-◌, ◌<◌, ◌≤◌, ◌^◌, ◌==◌, ◌&&◌, nat_le, nat_lt, Bool, true, false, not, if◌then◌else◌, List, [], ◌∷◌, flat_map, Option, None, Some}
+use Rattle.std.specs.List.{range_with_len}
 use Rattle.std.specs.Ordering.{nat_cmp}
-use Rattle.std.specs.FinMap.{FinMap, from_entries, entries, contains_key, insert}
+use Rattle.std.specs.FinMap.{FinMap, from_entries, entries, contains_key, get, insert}
 use Rattle.sis_ranges.specs.declared.run.Run.{Run}
 
 -- the block behind the run, and the place behind it
@@ -39,6 +40,13 @@ in_stretch first count block = nat_le first block && nat_lt block (first + count
 abbrev pub has_block : ℕ → Run → Bool
 has_block block r = in_stretch r.first r.count block
 
+-- the run's places, and whether a place is one of them
+abbrev pub run_places : Run → List ℕ
+run_places r = range_with_len r.place r.count
+
+abbrev pub has_place : ℕ → Run → Bool
+has_place place r = in_stretch r.place r.count place
+
 -- where the first run that has a block puts it
 abbrev pub place_of : List Run → ℕ → Option ℕ
 place_of [] block = None
@@ -58,6 +66,11 @@ IsApart r (s ∷ rs) = (block_end r ≤ s.first) × (can_join r s ≡ false)
 abbrev pub AreRuns : List Run → Type 0
 AreRuns [] = Unit {0}
 AreRuns (r ∷ rs) = (1 ≤ r.count) × IsApart r rs × AreRuns rs
+
+-- runs of neighbouring blocks, one behind the other, from one block up to before another
+abbrev pub IsChain : ℕ → ℕ → List Run → Type 0
+IsChain first end [] = first ≡ end
+IsChain first end (r ∷ rs) = (r.first ≡ first) × (1 ≤ r.count) × IsChain (block_end r) end rs
 
 -- blocks and places keep their limits
 pub record IsWithin (r : Run) : Type 0 where
@@ -94,3 +107,18 @@ IsLeast test from below None = (q : ℕ) → from ≤ q → q < below → test q
 IsLeast test from below (Some least) =
     (from ≤ least) × (least < below) × (test least ≡ true)
     × ((q : ℕ) → from ≤ q → q < least → test q ≡ false)
+
+-- A part of a map: blocks of a stretch, which begins at `from`, at neighbouring places. No block of
+-- the stretch before them is mapped, and they can't be made more.
+pub record IsPart (m : FinMap nat_cmp ℕ) (from below : ℕ) (r : Run) : Type 0 where
+  pub some : 1 ≤ r.count
+  pub low : from ≤ r.first
+  pub high : block_end r ≤ below
+  pub gap : (q : ℕ) → from ≤ q → q < r.first → get m q ≡ None
+  pub mapped : (q : ℕ) → r.first ≤ q → q < block_end r → get m q ≡ Some (r.place + (q - r.first))
+  pub whole : block_end r < below → get m (block_end r) ≢ Some (place_end r)
+
+-- the first part of a map, from one block on and below another, where there is one
+abbrev pub IsFirstPart : FinMap nat_cmp ℕ → ℕ → ℕ → Option Run → Type 0
+IsFirstPart m from below None = (q : ℕ) → from ≤ q → q < below → get m q ≡ None
+IsFirstPart m from below (Some r) = IsPart m from below r

@@ -1,8 +1,8 @@
 -- Words that only this crate's private functions cite: runs that are cut and joined.
-use Rattle.std.specs.Prelude.{◌≡◌, ℕ, suc, ◌+◌, ◌-◌, ◌<◌, ◌≤◌, min, max, nat_le, nat_lt, if◌then◌else◌, List, [], ◌∷◌, Option, None, Some}
+use Rattle.std.specs.Prelude.{◌≡◌, ◌≢◌, ℕ, suc, ◌+◌, ◌-◌, ◌<◌, ◌≤◌, min, max, nat_le, nat_lt, if◌then◌else◌, List, [], ◌∷◌, Option, None, Some}
 use Rattle.std.specs.List.{AllByRecursion}
 use Rattle.sis_ranges.specs.declared.run.Run.{Run}
-use Rattle.sis_ranges.specs.Extents.{block_end, can_join, place_of, AreRuns, IsWithin}
+use Rattle.sis_ranges.specs.Extents.{block_end, place_end, can_join, place_of, AreRuns, IsWithin}
 
 -- how many blocks the runs have
 abbrev pub blocks_in : List Run → ℕ
@@ -34,6 +34,7 @@ pub record IsNext (runs : List Run) (block : ℕ) (r : Run) : Type 0 where
   pub low : (q : ℕ) → block ≤ q → q < r.first → place_of runs q ≡ None
   pub mapped : (q : ℕ) → r.first ≤ q → q < block_end r
       → place_of runs q ≡ Some (r.place + (q - r.first))
+  pub whole : place_of runs (block_end r) ≢ Some (place_end r)
 
 -- that run, where there is one
 abbrev pub FindsNext : List Run → ℕ → Option Run → Type 0

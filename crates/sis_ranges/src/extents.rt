@@ -1,8 +1,8 @@
 //! A finite map from blocks to places, kept as runs.
-ghost use Rattle.std.specs.Prelude.{◌≡◌, ◌+◌, ◌<◌, ◌≤◌, ◌^◌, IfOk, IsOk, OnOk, OnErr, Ok, nat_lt, not};
+ghost use Rattle.std.specs.Prelude.{◌≡◌, ◌<◌, ◌^◌, IfOk, IsOk, OnOk, OnErr, Ok, nat_lt, not};
 ghost use Rattle.std.specs.List.{AllByRecursion};
 ghost use Rattle.std.specs.FinMap as map;
-ghost use Rattle.sis_ranges.specs.Extents.{AreRuns, IsWithin, IsLeast, in_stretch, is_gap, is_mapped, map_of, runs_of, with_blocks};
+ghost use Rattle.sis_ranges.specs.Extents.{AreRuns, IsFirstPart, IsWithin, IsLeast, in_stretch, is_gap, is_mapped, map_of, runs_of, with_blocks};
 
 use crate::Run;
 use crate::cutting::{between, cut, next_run, replace, total};
@@ -107,6 +107,23 @@ impl Extents {
         None
     }
 
+    /// The first blocks that are mapped, from one on and below another: as many as lie at
+    /// neighbouring places.
+    pub fn next_part(&self, from: u64, below: u64) -> Option<Run>
+        ensures { IsFirstPart self.now from below result }
+    {
+        match next_run(&self.runs, from) {
+            Some(run) if run.first < below && from < below => {
+                let run = run.from_block(from);
+                Some(Run {
+                    count: run.count.min(below - run.first),
+                    ..run
+                })
+            }
+            _ => None,
+        }
+    }
+
     /// Maps a block to a place, also where it is mapped already.
     pub fn set(&mut self, block: u64, place: u64) -> Result<(), AllocError>
         requires block { block < 2 ^ 24 }
@@ -146,9 +163,8 @@ impl Extents {
         self.clear_run(block, 1)
     }
 
-    /// Takes out the blocks of a stretch that are mapped.
+    /// Takes out the blocks of a stretch that are mapped. It may end anywhere, also past 2^64.
     pub fn clear_run(&mut self, first: u64, count: u64) -> Result<(), AllocError>
-        requires { first + count ≤ 2 ^ 24 }
         ensures ok { OnOk result
             (self.new ≡ map.retain_keys self.old (λ k. not (in_stretch first count k))) }
         ensures err { OnErr result (self.new ≡ self.old) }
@@ -156,7 +172,8 @@ impl Extents {
         if count == 0 {
             return Ok(());
         }
-        let end = first + count;
+        // A sum past u64::MAX is cut there, far behind each block that is mapped.
+        let end = first.saturating_add(count);
         let gone = between(&self.runs, first, end);
         replace(&mut self.runs, first, end, None)?;
         self.blocks -= gone;
