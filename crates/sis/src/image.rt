@@ -4,13 +4,10 @@ ghost use Rattle.sis_disk.specs.Layout.{IsLayout};
 
 use crate::streams::may_be_printed_to;
 use sis_cli::Plan;
-use sis_disk::ImageFile;
+use sis_disk::{BLOCK_LEN, ImageFile};
 use std::fs::{File, OpenOptions};
 use std::io;
 use std::path::Path;
-
-/// The length of a block of an image, in bytes.
-const BLOCK_LEN: u64 = 4096;
 
 fn open_file(rt: &HostRuntime, path: &str) -> io::Result<File> {
     OpenOptions::new().read(true).write(true).open(rt, path)

@@ -90,8 +90,8 @@ pub record NotMade (old new : Seen) : Type 0 where
   pub calls : new.calls ≡ old.calls
   pub told : new.told ≡ old.told
 
--- What a call leaves. Given whether it succeeded, `call` is the call. A refused call fails. The count
--- of faults rises by one for a call that fails, and for no other.
+-- What a call leaves. Given whether it succeeded, `call` is the call. A refused call fails. The
+-- count of faults rises by one for a call that fails, and for no other.
 pub record Went {T E : Type 0} (call : Bool → Call) (result : Result T E)
     (old new : Seen) : Type 0 where
   pub size : new.size ≡ old.size

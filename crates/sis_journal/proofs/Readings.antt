@@ -18,7 +18,7 @@ use Rattle.sis_disk.specs.Superblock.{ImageFault, superblock_at}
 use Rattle.sis_reading.specs.Steps.{◌>>=◌, guard}
 use Rattle.sis_journal.specs.declared.fault.OpenFault.{OpenFault}
 use Rattle.sis_journal.specs.declared.fault.OpenFault.TheVariants as faults
-use Rattle.sis_journal.specs.Opening.{FailsAs}
+use Rattle.sis_journal.specs.Opening.{FailsReading}
 use Rattle.sis_journal.proofs.SuperblockLaws.{superblock_at-short}
 
 pub if_some : {A : Type 0} (o : Option A) (P Q : A → Type 0) → ((x : A) → P x → Q x) → IfSome o P → IfSome o Q
@@ -178,7 +178,7 @@ module _ {V : Type 0} (read : Layout → List ℕ → Result V TextFault) where
 
   -- the first block's fault is the image's
   first_fails : (fault : OpenFault) (m : List ℕ)
-      → FailsAs fault (superblock_at (length m) (take 4096 m)) → FailsAs fault (read_by read m)
+      → FailsReading fault (superblock_at (length m) (take 4096 m)) → FailsReading fault (read_by read m)
   unfolding read_by
   first_fails faults.Disk m h = tt
   first_fails faults.Memory m h = tt
@@ -186,14 +186,14 @@ module _ {V : Type 0} (read : Layout → List ℕ → Result V TextFault) where
   first_fails (faults.Bad k file index) m h = absurd h
 
   pub block_fails : (live : Option (List ℕ)) (fault : OpenFault)
-      → IfSome live (λ m. FailsAs fault (superblock_at (length m) (take 4096 m)))
-      → IfSome live (λ m. FailsAs fault (read_by read m))
+      → IfSome live (λ m. FailsReading fault (superblock_at (length m) (take 4096 m)))
+      → IfSome live (λ m. FailsReading fault (read_by read m))
   block_fails live fault h = if_some live _ _ (λ m. first_fails fault m) h
 
   -- and so is that of the area
   second_fails : (fault : OpenFault) (m : List ℕ) (l : Layout)
-      → superblock_at (length m) (take 4096 m) ≡ Ok l → FailsAs fault (text_at l m)
-      → FailsAs fault (read_by read m)
+      → superblock_at (length m) (take 4096 m) ≡ Ok l → FailsReading fault (text_at l m)
+      → FailsReading fault (read_by read m)
   unfolding read_by
   second_fails faults.Disk m l block h = tt
   second_fails faults.Memory m l block h = tt
@@ -206,15 +206,15 @@ module _ {V : Type 0} (read : Layout → List ℕ → Result V TextFault) where
 
   pub area_fails : (old mid : Option (List ℕ)) (fault : OpenFault) (l : Layout) → mid ≡ old
       → IfSome old (λ m. superblock_at (length m) (take 4096 m) ≡ Ok l)
-      → IfSome mid (λ m. FailsAs fault (text_at l m))
-      → IfSome old (λ m. FailsAs fault (read_by read m))
+      → IfSome mid (λ m. FailsReading fault (text_at l m))
+      → IfSome old (λ m. FailsReading fault (read_by read m))
   area_fails None mid fault l same block h = tt
   area_fails (Some m) mid fault l same block h =
-      second_fails fault m l block (moved mid (Some m) (λ m. FailsAs fault (text_at l m)) same h)
+      second_fails fault m l block (moved mid (Some m) (λ m. FailsReading fault (text_at l m)) same h)
 
   -- a fault of reading the text
   pub text_fails : (live : Option (List ℕ)) (fault : OpenFault) (by : Result V ImageFault)
-      → IfSome live (λ m. read_by read m ≡ by) → FailsAs fault by
-      → IfSome live (λ m. FailsAs fault (read_by read m))
+      → IfSome live (λ m. read_by read m ≡ by) → FailsReading fault by
+      → IfSome live (λ m. FailsReading fault (read_by read m))
   text_fails live fault by same h =
-      if_some live _ _ (λ m e. subst (FailsAs fault) (sym e) h) same
+      if_some live _ _ (λ m e. subst (FailsReading fault) (sym e) h) same

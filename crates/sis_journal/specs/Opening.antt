@@ -8,11 +8,11 @@ use Rattle.sis_journal.specs.declared.fault.OpenFault.{OpenFault}
 use Rattle.sis_journal.specs.declared.fault.OpenFault.TheVariants as faults
 
 -- the fault is the one that reading gives, unless the disk failed or memory ran out
-abbrev pub FailsAs : {V : Type 0} → OpenFault → Result V ImageFault → Type 0
-FailsAs faults.Disk read = ⊤
-FailsAs faults.Memory read = ⊤
-FailsAs (faults.Image at kind) read = read ≡ Err (at, kind)
-FailsAs (faults.Bad kind file index) read = ⊥
+abbrev pub FailsReading : {V : Type 0} → OpenFault → Result V ImageFault → Type 0
+FailsReading faults.Disk read = ⊤
+FailsReading faults.Memory read = ⊤
+FailsReading (faults.Image at kind) read = read ≡ Err (at, kind)
+FailsReading (faults.Bad kind file index) read = ⊥
 
 -- where the disk failed, its count of faults rose
 abbrev pub Caused : OpenFault → ℕ → ℕ → Type 0
@@ -20,6 +20,13 @@ Caused faults.Disk old new = Rose old new
 Caused faults.Memory old new = ⊤
 Caused (faults.Image at kind) old new = ⊤
 Caused (faults.Bad kind file index) old new = ⊤
+
+-- the count of faults is as it was, or one higher at most where the disk failed
+abbrev pub CountsFault : OpenFault → ℕ → ℕ → Type 0
+CountsFault faults.Disk old new = new ≤ old + 1
+CountsFault faults.Memory old new = new ≡ old
+CountsFault (faults.Image at kind) old new = new ≡ old
+CountsFault (faults.Bad kind file index) old new = new ≡ old
 
 abbrev pub IsRead : Call → Type 0
 IsRead (Reads at len ok) = ⊤

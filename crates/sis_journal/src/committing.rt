@@ -10,7 +10,7 @@ ghost use Rattle.sis_journal.specs.Inside.{IsReady, WritesStable};
 ghost use Rattle.sis_journal.specs.Texts.{HoldsText, KeepsText, KeepsData, OldOrNew};
 
 use crate::CommitFault;
-use sis_disk::{Disk, Layout};
+use sis_disk::{BLOCK_LEN, Disk, Layout};
 
 /// Writes bytes, and makes them stable.
 pub fn write_stable<D: Disk>(disk: &mut D, at: u64, bytes: &[u8]) -> Result<(), CommitFault>
@@ -23,6 +23,7 @@ pub fn write_stable<D: Disk>(disk: &mut D, at: u64, bytes: &[u8]) -> Result<(), 
         × GoesDown first call (D.seen disk.old) (D.seen disk.new)) }
     ensures number { IfErr result (λ fault. (call : ℕ) × (fault ≡ CommitFault.Down call)
         × (call < (D.seen disk.old).calls + 2)) }
+    ensures once { OnErr result ((D.seen disk.new).faults ≤ (D.seen disk.old).faults + 1) }
     ensures quiet { OnOk result ((D.seen disk.new).faults ≡ (D.seen disk.old).faults) }
     ensures elapses { Elapses (D.seen disk.old) (D.seen disk.new) }
     ensures calls { (D.seen disk.new).calls ≤ (D.seen disk.old).calls + 2 }
@@ -103,5 +104,5 @@ pub fn select_other<D: Disk>(disk: &mut D, layout: &Layout, second: bool) -> Res
     ensures elapses { Elapses (D.seen disk.old) (D.seen disk.new) }
     ensures calls { (D.seen disk.new).calls ≤ (D.seen disk.old).calls + 2 }
 {
-    write_stable(disk, 4096, &[selector_of(!second)])
+    write_stable(disk, BLOCK_LEN, &[selector_of(!second)])
 }

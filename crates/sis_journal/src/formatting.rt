@@ -1,5 +1,5 @@
 //! Makes a disk an image that keeps a value.
-ghost use Rattle.std.specs.Prelude.{◌≡◌, ◌⊎◌, ◌+◌, ◌*◌, ◌≤◌, ◌++◌, [], drop, length, vec_capacity, Err, IfOk, IfErr, IfSome, OnOk};
+ghost use Rattle.std.specs.Prelude.{◌≡◌, ◌⊎◌, ◌+◌, ◌*◌, ◌≤◌, ◌++◌, [], drop, length, vec_capacity, Err, IfOk, IfErr, IfSome, OnErr, OnOk};
 ghost use Rattle.std.specs.Option.{option_map};
 ghost use Rattle.byteorder.specs.Endian.{little_bytes};
 ghost use Rattle.sis_disk.specs.Layout.{IsLayout, table_cap};
@@ -57,7 +57,7 @@ fn spell_image<K: Kept>(alloc: Global, layout: &Layout, value: &K) -> Result<Vec
     let mut out = Vec::with_capacity(alloc, len)?;
     put_superblock(&mut out, layout);
     // The selector's byte is 0: area A counts.
-    put(&mut out, &[0; 4096]);
+    put(&mut out, &[0; BLOCK_LEN as usize]);
     put_area(value, &mut out);
     out.resize(len, 0)?;
     Ok(out)
@@ -102,6 +102,10 @@ impl Journal {
             CausedFormat fault layout (D.seen disk.old) (D.seen disk.new)) }
         ensures memory { result ≡ Err FormatFault.Memory
             → D.seen disk.new ≡ D.seen disk.old }
+
+        // No call that failed is tried again.
+        ensures quiet { OnOk result ((D.seen disk.new).faults ≡ (D.seen disk.old).faults) }
+        ensures once { OnErr result ((D.seen disk.new).faults ≤ (D.seen disk.old).faults + 1) }
 
         ensures elapses { Elapses (D.seen disk.old) (D.seen disk.new) }
         ensures calls { (D.seen disk.new).calls ≤ (D.seen disk.old).calls + 2 }

@@ -6,7 +6,7 @@ ghost use Rattle.sis_disk.specs.Layout.{IsLayout, first_byte, table_cap};
 ghost use Rattle.sis_disk.specs.Record.{DiskRecord, live_of, state_of};
 ghost use Rattle.sis_disk.specs.Stops.{Elapses, Leaves, Now};
 ghost use Rattle.sis_journal.specs.Committing.{Both, KeepsRest};
-ghost use Rattle.sis_journal.specs.Opening.{Caused, FailsAs, IsSynced, SyncThenReads};
+ghost use Rattle.sis_journal.specs.Opening.{Caused, CountsFault, FailsReading, IsSynced, SyncThenReads};
 ghost use Rattle.sis_journal.specs.Texts.{KeepsText, OldOrNew};
 
 use crate::areas::spell_area;
@@ -64,9 +64,14 @@ impl Journal {
 
         // A refusal names the image's first fault, unless the disk failed or memory ran out.
         ensures fault { IfErr result (λ fault. IfSome (live_of (D.seen disk.old))
-            (λ live. FailsAs fault (read_by K.read live))) }
+            (λ live. FailsReading fault (read_by K.read live))) }
         ensures cause { IfErr result
             (λ fault. Caused fault (D.seen disk.old).faults (D.seen disk.new).faults) }
+
+        // No call that failed is tried again.
+        ensures quiet { OnOk result ((D.seen disk.new).faults ≡ (D.seen disk.old).faults) }
+        ensures refused_quiet { IfErr result
+            (λ fault. CountsFault fault (D.seen disk.old).faults (D.seen disk.new).faults) }
 
         // The sync succeeded, unless the disk failed.
         ensures calls { SyncThenReads 4 (D.seen disk.old) (D.seen disk.new) }

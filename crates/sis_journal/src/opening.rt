@@ -8,7 +8,7 @@ ghost use Rattle.sis_disk.specs.Stops.{Now};
 ghost use Rattle.sis_disk.specs.Superblock.{superblock, superblock_at};
 ghost use Rattle.sis_journal.specs.declared.fault.OpenFault.TheVariants as faults;
 ghost use Rattle.sis_journal.specs.Inside.{IsOutside, OnlyReads};
-ghost use Rattle.sis_journal.specs.Opening.{Caused, FailsAs};
+ghost use Rattle.sis_journal.specs.Opening.{Caused, CountsFault, FailsReading};
 ghost use Rattle.sis_journal.specs.Texts.{HoldsText};
 ghost use Rattle.sis_journal.specs.View.{FailsText, IsWithin};
 
@@ -35,6 +35,8 @@ fn read_at<D: Disk>(disk: &mut D, at: u64, into: &mut [u8]) -> Result<(), DiskFa
     ensures bytes { OnOk result (IfSome (live_of (D.seen disk.old))
         (λ live. into.new ≡ slice_range live at (at + length into.old))) }
     ensures cause { OnErr result (Rose (D.seen disk.old).faults (D.seen disk.new).faults) }
+    ensures once { OnErr result ((D.seen disk.new).faults ≤ (D.seen disk.old).faults + 1) }
+    ensures quiet { OnOk result ((D.seen disk.new).faults ≡ (D.seen disk.old).faults) }
 {
     disk.read(at, into)
 }
@@ -50,18 +52,21 @@ fn read_layout<D: Disk>(disk: &mut D) -> Result<Layout, OpenFault>
     ensures size { IfOk result (λ l. (D.seen disk.old).size ≡ 4096 * l.total) }
     ensures log { IfOk result (λ l. l.log ≡ 0) }
     ensures fault { IfErr result (λ fault. IfSome (live_of (D.seen disk.old))
-        (λ live. FailsAs fault (superblock_at (length live) (take 4096 live)))) }
+        (λ live. FailsReading fault (superblock_at (length live) (take 4096 live)))) }
     ensures cause { IfErr result
         (λ fault. Caused fault (D.seen disk.old).faults (D.seen disk.new).faults) }
+    ensures quiet { OnOk result ((D.seen disk.new).faults ≡ (D.seen disk.old).faults) }
+    ensures refused_quiet { IfErr result
+        (λ fault. CountsFault fault (D.seen disk.old).faults (D.seen disk.new).faults) }
 {
     let size = disk.len();
-    if size < 4096 {
+    if size < BLOCK_LEN {
         return Err(OpenFault::Image {
             at: 0,
             kind: ImageKind::Length,
         });
     }
-    let mut block = [0; 4096];
+    let mut block = [0; BLOCK_LEN as usize];
     read_at(disk, 0, &mut block)?;
     match read_superblock(size, &block) {
         Ok(layout) => Ok(layout),
@@ -76,9 +81,11 @@ fn read_selector<D: Disk>(disk: &mut D) -> Result<bool, DiskFault>
     ensures value { IfOk result (λ second. IfSome (live_of (D.seen disk.old))
         (λ live. (slice_index live 4096 == 1) ≡ second)) }
     ensures cause { OnErr result (Rose (D.seen disk.old).faults (D.seen disk.new).faults) }
+    ensures once { OnErr result ((D.seen disk.new).faults ≤ (D.seen disk.old).faults + 1) }
+    ensures quiet { OnOk result ((D.seen disk.new).faults ≡ (D.seen disk.old).faults) }
 {
     let mut byte = [0];
-    read_at(disk, 4096, &mut byte)?;
+    read_at(disk, BLOCK_LEN, &mut byte)?;
     Ok(byte[0] == 1)
 }
 
@@ -100,6 +107,8 @@ fn read_len<D: Disk>(disk: &mut D, at: u64) -> Result<u64, DiskFault>
     ensures bytes { IfOk result (λ len. IfSome (live_of (D.seen disk.old))
         (λ live. slice_range live at (at + 8) ≡ little_bytes 8 len)) }
     ensures cause { OnErr result (Rose (D.seen disk.old).faults (D.seen disk.new).faults) }
+    ensures once { OnErr result ((D.seen disk.new).faults ≤ (D.seen disk.old).faults + 1) }
+    ensures quiet { OnOk result ((D.seen disk.new).faults ≡ (D.seen disk.old).faults) }
 {
     let mut bytes = [0; 8];
     read_at(disk, at, &mut bytes)?;
@@ -126,6 +135,9 @@ fn read_text<D: Disk>(
     ensures fault { IfErr result IsOutside }
     ensures cause { IfErr result
         (λ fault. Caused fault (D.seen disk.old).faults (D.seen disk.new).faults) }
+    ensures quiet { OnOk result ((D.seen disk.new).faults ≡ (D.seen disk.old).faults) }
+    ensures refused_quiet { IfErr result
+        (λ fault. CountsFault fault (D.seen disk.old).faults (D.seen disk.new).faults) }
 {
     let mut text = Vec::with_capacity(alloc, (BLOCK_LEN * layout.area) as usize)?;
     text.resize(len as usize, 0)?;
@@ -157,9 +169,12 @@ fn read_area<D: Disk>(alloc: Global, disk: &mut D, layout: &Layout) -> Result<Ar
     ensures fits { IfOk result (λ area. length area.buffer.items ≤ table_cap layout.now) }
     ensures room { IfOk result (λ area. 4096 * layout.now.area ≤ vec_capacity area.buffer) }
     ensures fault { IfErr result (λ fault. IfSome (live_of (D.seen disk.old))
-        (λ live. FailsAs fault (text_at layout.now live))) }
+        (λ live. FailsReading fault (text_at layout.now live))) }
     ensures cause { IfErr result
         (λ fault. Caused fault (D.seen disk.old).faults (D.seen disk.new).faults) }
+    ensures quiet { OnOk result ((D.seen disk.new).faults ≡ (D.seen disk.old).faults) }
+    ensures refused_quiet { IfErr result
+        (λ fault. CountsFault fault (D.seen disk.old).faults (D.seen disk.new).faults) }
 {
     let second = read_selector(disk)?;
     let at = layout.area_start(second);
@@ -179,7 +194,7 @@ fn in_image<K: Kept>(at: u64, fault: KeptFault) -> OpenFault
     requires place { at ≤ 2 ^ 40 }
     requires bound { IsWithin (2 ^ 40) fault }
     ensures value { (read : Result K TextFault) → FailsText fault read
-        → FailsAs result (shifted at read) }
+        → FailsReading result (shifted at read) }
     ensures fault { result ≢ faults.Disk }
 {
     match fault {
@@ -199,7 +214,7 @@ fn value_of<K: Kept>(alloc: Global, text: &[u8], at: u64, layout: Layout) -> Res
     ensures value { IfOk result (λ value. K.read layout text.now ≡ Ok value) }
     ensures spelled { IfOk result (λ value. K.text value ≡ text.now) }
     ensures fault { IfErr result
-        (λ fault. FailsAs fault (shifted (at + 8) (K.read layout text.now))) }
+        (λ fault. FailsReading fault (shifted (at + 8) (K.read layout text.now))) }
     ensures outside { IfErr result (λ fault. fault ≢ faults.Disk) }
 {
     match K::decode(alloc, text, layout) {
@@ -227,9 +242,12 @@ pub fn read_image<D: Disk, K: Kept>(
     ensures size { IfOk result (λ x. (D.seen disk.old).size ≡ 4096 * x.1.total) }
     ensures room { IfOk result (λ x. 4096 * x.1.area ≤ vec_capacity x.0.buffer) }
     ensures fault { IfErr result (λ fault. IfSome (live_of (D.seen disk.old))
-        (λ live. FailsAs fault (read_by K.read live))) }
+        (λ live. FailsReading fault (read_by K.read live))) }
     ensures cause { IfErr result
         (λ fault. Caused fault (D.seen disk.old).faults (D.seen disk.new).faults) }
+    ensures quiet { OnOk result ((D.seen disk.new).faults ≡ (D.seen disk.old).faults) }
+    ensures refused_quiet { IfErr result
+        (λ fault. CountsFault fault (D.seen disk.old).faults (D.seen disk.new).faults) }
 {
     let layout = read_layout(disk)?;
     let area = read_area(alloc, disk, &layout)?;

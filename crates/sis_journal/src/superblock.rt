@@ -5,7 +5,7 @@ ghost use Rattle.sis_disk.specs.Layout.{IsLayout};
 ghost use Rattle.sis_disk.specs.Superblock.{superblock, superblock_at, magic};
 
 use byteorder::{ByteOrder, LittleEndian};
-use sis_disk::{ImageKind, Layout};
+use sis_disk::{BLOCK_LEN, ImageKind, Layout};
 
 /// Where the first field is whose rule fails, and the rule.
 pub type ImageFault = (u64, ImageKind);
@@ -49,7 +49,7 @@ fn read_fields(size: u64, block: &[u8]) -> Result<Layout, ImageFault>
     ensures value { result ≡ superblock_at size block.now }
     ensures log { IfOk result (λ l. l.log ≡ 0) }
 {
-    if size < 4096 {
+    if size < BLOCK_LEN {
         return Err((0, ImageKind::Length));
     }
     if is_other_text(block) {
@@ -66,7 +66,7 @@ fn read_fields(size: u64, block: &[u8]) -> Result<Layout, ImageFault>
     if is_bad_total(total) {
         return Err((16, ImageKind::Total));
     }
-    if size != 4096 * total {
+    if size != BLOCK_LEN * total {
         return Err((16, ImageKind::Length));
     }
     let area = LittleEndian::read_u64(&block[24..]);

@@ -4,9 +4,9 @@ use Rattle.sis_disk.specs.Record.{live_of}
 use Rattle.sis_journal.proofs.Readings.{if_some, live_sized, short_image}
 use Rattle.sis_journal.proofs.opening.read_layout.Goals as goal
 
-pub returns-then-size-lt4096-clause-fault : goal.returns-then-size-lt4096-clause-fault
-returns-then-size-lt4096-clause-fault g c =
-    short_image _ _ (live_sized _ _ (g.met.D.Disk.sized c.args.disk.now)) (omega (arith, c.if-size-lt4096.true, c.len-size.ensures))
+pub returns-then-size-lt-BLOCK_LEN-clause-fault : goal.returns-then-size-lt-BLOCK_LEN-clause-fault
+returns-then-size-lt-BLOCK_LEN-clause-fault g c =
+    short_image _ _ (live_sized _ _ (g.met.D.Disk.sized c.args.disk.now)) (omega (arith, c.if-size-lt-BLOCK_LEN.true, c.len-size.ensures))
 
 pub returns-in-Ok-clause-block : goal.returns-in-Ok-clause-block
 returns-in-Ok-clause-block g c =

@@ -2,7 +2,7 @@ use Rattle.std.proofs.Common.{◌≡◌, []}
 use Rattle.std.specs.Prelude.{IfSome}
 use Rattle.sis_disk.specs.Areas.{read_by}
 use Rattle.sis_disk.specs.Record.{live_of}
-use Rattle.sis_journal.specs.Opening.{FailsAs}
+use Rattle.sis_journal.specs.Opening.{FailsReading}
 use Rattle.sis_journal.specs.Texts.{KeepsText}
 use Rattle.sis_journal.proofs.HeldTexts.{text_kept}
 use Rattle.sis_journal.proofs.ReadCalls.{now_reading, sync_and_reads, sync_failed, synced_reads}
@@ -15,8 +15,8 @@ returns-in_err-sync_first-clause-calls g c = sync_failed 4 _ _ _ c.in_err-sync_f
 pub returns-in_err-area-clause-fault : goal.returns-in_err-area-clause-fault
 returns-in_err-area-clause-fault g c =
     let old = live_of (g.D.Disk.seen c.args.disk.now) in
-    passed_on c.from_residual-in_err-area.result c.in_err-area.field-0.0 (λ fault. IfSome old (λ live. FailsAs fault (read_by g.K.Kept.read live))) c.from_residual-in_err-area.ensures.1
-    (moved _ old (λ live. FailsAs c.in_err-area.field-0.0 (read_by g.K.Kept.read live)) c.sync_first.ensures.live c.in_err-area.ensures.fault)
+    passed_on c.from_residual-in_err-area.result c.in_err-area.field-0.0 (λ fault. IfSome old (λ live. FailsReading fault (read_by g.K.Kept.read live))) c.from_residual-in_err-area.ensures.1
+    (moved _ old (λ live. FailsReading c.in_err-area.field-0.0 (read_by g.K.Kept.read live)) c.sync_first.ensures.live c.in_err-area.ensures.fault)
 
 pub returns-in_err-area-clause-calls : goal.returns-in_err-area-clause-calls
 returns-in_err-area-clause-calls g c = sync_and_reads 4 _ _ _ _ c.in_ok-sync_first.ensures.call c.read_image.ensures.reads
