@@ -4,7 +4,7 @@ ghost use Rattle.std.specs.Prelude.{◌≡◌, ◌∷◌, [], IfOk};
 use anyhow::{Result, bail};
 use sis_disk::Layout;
 use sis_name::Name;
-use sis_table::{Edit, EditsFault, GoodFault, Node, Table, TableFault};
+use sis_table::{Edit, EditsFault, GoodFault, Node, NodeKind, Table, TableFault};
 use std::alloc::{AllocError, Global};
 use std::fmt::Write;
 
@@ -24,7 +24,7 @@ fn add_file(alloc: Global, out: &mut String, node: &Node) -> Result<()> {
         "file {} \"{name}\", size {size}, version {version}",
         node.id
     )?;
-    for run in node.runs.as_slice() {
+    for run in node.map.runs() {
         write!(out, "; blocks {} {} at {}", run.first, run.count, run.place)?;
     }
     out.push_str("\n")?;
@@ -76,11 +76,15 @@ pub fn shown(alloc: Global, bytes: &[u8]) -> Result<String> {
 // Makes a file `a`, gives it three bytes, and maps its block 0 to place 6.
 fn edits(alloc: Global, name: Name) -> Result<Vec<Edit>, AllocError>
     requires { name ≡ 97 ∷ [] }
-    ensures { IfOk result (λ edits. edits.items ≡ Edit.Make 1 (97 ∷ []) ∷ Edit.Size 1 3
-        ∷ Edit.Map 1 0 1 6 ∷ []) }
+    ensures { IfOk result (λ edits. edits.items ≡ Edit.Make 1 NodeKind.Plain (97 ∷ [])
+        ∷ Edit.Size 1 3 ∷ Edit.Map 1 0 1 6 ∷ []) }
 {
     let mut edits = Vec::with_capacity(alloc, 3)?;
-    edits.push(Edit::Make { id: 1, name })?;
+    edits.push(Edit::Make {
+        id: 1,
+        kind: NodeKind::Plain,
+        name,
+    })?;
     edits.push(Edit::Size { id: 1, size: 3 })?;
     edits.push(Edit::Map {
         id: 1,
@@ -97,7 +101,7 @@ pub fn edited(alloc: Global, most: u64, bytes: &[u8]) -> Result<String> {
     let mut table = Table::empty(alloc, LAYOUT);
     let mut out = String::new(alloc);
     match table.apply_all(&edits, most) {
-        Ok(()) => {}
+        Ok(_) => {}
         Err(EditsFault::Memory) => bail!("out of memory"),
         Err(fault) => writeln!(out, "{fault}")?,
     }

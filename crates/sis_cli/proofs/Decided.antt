@@ -12,7 +12,7 @@ use Rattle.sis_disk.specs.Layout.{data_blocks, first_byte}
 use Rattle.sis_disk.specs.Record.{Rose}
 use Rattle.sis_disk.specs.Stops.{Elapses}
 use Rattle.sis_name.specs.Units.{is_store_name}
-use Rattle.sis_model.specs.World.{World, bytes_of}
+use Rattle.sis_model.specs.World.{World, bytes_of, with_file, without_client}
 use Rattle.sis_name.specs.Files.{Files}
 use Rattle.sis_model.specs.World as world
 use Rattle.sis_model.specs.Answer.{refusal_of, MayReply, world_with, world_as, changed_by, most_names, Kind, IsDone, IsRefused, IsHindered, kind_of}

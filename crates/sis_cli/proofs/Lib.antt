@@ -1,5 +1,6 @@
 pub mod Added
 pub mod Decided
+pub mod Defects
 pub mod Early
 pub mod InOrder
 pub mod Lists
@@ -8,7 +9,7 @@ pub mod RanLines
 pub mod Reopening
 pub mod Runs
 pub mod ServeLemmas
-pub mod Sizes
+pub mod Staged
 pub mod Surviving
 pub mod WordLemmas
 pub mod Worlds

@@ -5,19 +5,20 @@ use Rattle.std.proofs.lemmas.Bool.Decides.{nat_tests}
 use Rattle.sis_model.specs.declared.reply.LimitKind.TheVariants as limit
 use Rattle.std.specs.Option.{option_map}
 use Rattle.std.specs.FinMap.{insert}
-use Rattle.sis_disk.specs.Layout.{first_place, table_cap}
+use Rattle.sis_disk.specs.Layout.{table_cap}
 use Rattle.sis_disk.specs.Record.{live_of}
 use Rattle.sis_name.specs.Files.{Files}
 use Rattle.sis_model.specs.declared.reply.Hindrance.{Hindrance}
 use Rattle.sis_model.specs.declared.reply.Hindrance.TheVariants as hindrance
-use Rattle.sis_table.specs.declared.runs.Run.{Run}
+use Rattle.sis_ranges.specs.declared.run.Run.{Run}
+use Rattle.sis_table.specs.declared.kind.NodeKind.TheVariants.{Plain}
 use Rattle.sis_table.specs.declared.edit.Edit.{Edit}
 use Rattle.sis_table.specs.Volume.{VolumeTable, greatest_number, most_nodes}
 use Rattle.sis_table.specs.Edits.{edited_by}
 use Rattle.sis_table.specs.Content.{files_of, files_in, run_bytes}
 use Rattle.sis_table.specs.Spelling.{spelling}
-use Rattle.sis_table.proofs.PutLemmas.{files_of-put}
-use Rattle.sis_volume.specs.Applying.{HindersApplying, is_edit, marked_by}
+use Rattle.sis_table.proofs.CallerLemmas.{files_of-put}
+use Rattle.sis_volume.specs.Applying.{HindersApplying, is_edit}
 use Rattle.sis_volume.specs.View.{VolumeView}
 use Rattle.sis_cli.specs.Making.{HindersMaking, StagesFile}
 use Rattle.sis_cli.specs.Stages.{AddsFile, limit_of_new}
@@ -32,7 +33,7 @@ files_put v name bytes None es runs st = refl
 files_put v name bytes (Some now) es runs st =
     ap (λ (files : Files). Some files)
     (ap (λ (x : List Edit). files_of (edited_by v x) now) st.edits
-    ∙ files_of-put v v.next_id name (length bytes) runs now (flat_map (run_bytes now) runs) st.table
+    ∙ files_of-put v v.next_id Plain name (length bytes) runs now (flat_map (run_bytes now) runs) st.table
     st.make st.chain refl
     ∙ ap (λ (b : List ℕ). insert (files_of v now) name b) st.written)
 
@@ -68,8 +69,6 @@ abbrev applied : VolumeView → List Edit → VolumeView
 applied v es =
     record v {
       table = edited_by v.table es;
-      held = marked_by (first_place v.table.layout) es
-          v.held;
       is_changed = v.is_changed || is_edit es;
     }
 

@@ -28,7 +28,7 @@ use Rattle.sis_cli.specs.declared.ending.Ending.{Ending}
 use Rattle.sis_cli.specs.declared.ending.Ending.TheVariants as ending
 use Rattle.sis_cli.specs.declared.exit.Exit.{Exit}
 use Rattle.sis_cli.specs.declared.exit.Exit.TheVariants as exit
-use Rattle.sis_cli.proofs.Runs.{run_good, order_ends}
+use Rattle.sis_cli.proofs.Runs.{order_ends}
 
 holds_by : (t : VolumeTable) (w : World) (live : Option (List ℕ)) → IsGood t
     → IfSome (option_map (files_of t) live) (λ files. files ≡ w.files)
@@ -87,7 +87,7 @@ ends_run (Err print.Memory) is_down down n out out_now entries is same rose ok e
 -- lines that ran, and their history that was printed or not
 pub leaves_ran : (old new : VolumeView) (now : Seen) (lines : List Line) (entries : List Entry)
     (n : Counts) (out out_now : Option (List ℕ)) (result : Result (Unit {0}) PrintFault)
-    (is_down : Bool) → n.disk ≤ old.seen.faults → n.disk_now ≡ now.faults → IsGood old.table
+    (is_down : Bool) → n.disk ≤ old.seen.faults → n.disk_now ≡ now.faults → IsGood new.table
     → old.is_changed ≡ false → old.down ≡ None
     → HasRun old new entries → SurvivesRun old new entries → map line_of entries ≡ exec_order lines
     → now ≡ new.seen → (new.is_changed ≡ false → new.down ≡ None
@@ -120,15 +120,14 @@ leaves_ran old new now lines entries n out out_now result is_down early is_now g
         ends.up _ (λ none.
             subst (λ (s : Seen). IfSome (live_of s)
             (λ m. HoldsFiles m new.table (world_after w entries))) (sym same)
-            (holds_by new.table (world_after w entries) (live_of new.seen)
-            (run_good (stage_of old) (stage_of new) entries ran.kept good)
+            (holds_by new.table (world_after w entries) (live_of new.seen) good
             (ran.world w h).1.stands
             (let still = none_of new.down (sym any ∙ none) in
             holds (ran.committed clean (ap ends_with_end order ∙ order_ends lines) still) still))),
       );
       stops = λ first w shows begun.
           subst (λ (s : Seen). Survives first w entries s) (sym same)
-          (runs first w shows good begun).survives;
+          (runs first w shows begun).survives;
       written = ends.written;
       front = ends.front;
       down = ends.down;

@@ -12,10 +12,10 @@ use Rattle.sis_table.specs.Good.{IsGood, first_defect}
 use Rattle.sis_table.specs.Image.{image_at}
 use Rattle.sis_table.specs.Opens.{OpensAs}
 use Rattle.sis_table.specs.Volume.{VolumeTable}
-use Rattle.sis_table.proofs.GoodLemmas.{good_law}
 use Rattle.sis_volume.specs.Opening.{FailsAs}
 use Rattle.sis_cli.specs.Run.{IsGoodImage, table_or, world_in}
 use Rattle.sis_cli.specs.Stops.{BeginsWith}
+use Rattle.sis_cli.proofs.Defects.{read_sound}
 
 -- what is said of the live bytes of such a disk is said of the image
 of_image : (m : List ℕ) (seen : Seen) (P : List ℕ → Type 0) → BeginsWith m seen
@@ -47,7 +47,7 @@ fault_of files m (fault.Image at kind) opens fails =
 fault_of files m (fault.Bad kind file index) opens fails =
     let same : opens.table ≡ fails.0 = same_table (sym opens.read ∙ fails.1) in
     absurd
-    (let none = sym (ap first_defect same) ∙ (good_law opens.table).1 opens.good in
+    (let none = sym (ap first_defect same) ∙ read_sound m opens.table opens.read opens.good in
     let e = sym none ∙ fails.2 in
     cc)
 

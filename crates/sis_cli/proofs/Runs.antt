@@ -3,6 +3,7 @@ use Rattle.std.proofs.Common.{◌≡◌, ℕ, ◌+◌, ◌≤◌, Bool, true, fa
 use Rattle.std.specs.Prelude.{length, All, reverse, ◌==◌, if◌then◌else◌, IfSome, is_some}
 use Rattle.std.proofs.lemmas.List.{reverse-append, length-append}
 use Rattle.std.proofs.lemmas.List.Elements.{All-take}
+use Rattle.std.proofs.lemmas.List.Folds.{list_any-append}
 use Rattle.std.proofs.Math.Seq.{take-append_seam}
 use Rattle.std.specs.List.{list_any}
 use Rattle.sis_disk.specs.Record.{Rose}
@@ -14,74 +15,16 @@ use Rattle.sis_model.proofs.Histories.{world_after-push, IsLegal-push}
 use Rattle.sis_model.specs.declared.command.Command.{Command}
 use Rattle.sis_model.specs.declared.command.Command.TheVariants as command
 use Rattle.sis_model.specs.declared.reply.Reply.{Reply}
-use Rattle.sis_model.specs.declared.reply.Reply.TheVariants as reply
 use Rattle.sis_model.specs.declared.history.Entry.{Entry}
 use Rattle.sis_model.specs.declared.history.Line.{Line}
-use Rattle.sis_table.specs.Volume.{VolumeTable}
-use Rattle.sis_table.specs.Good.{IsGood}
 use Rattle.sis_volume.specs.View.{VolumeView}
-use Rattle.sis_cli.specs.Stages.{is_down, Changes, PutChanges, IsStep, IsRun, Stage, AnswersDown, commits}
+use Rattle.sis_cli.specs.Stages.{is_down, IsStep, IsRun, Stage, AnswersDown, commits}
 use Rattle.sis_cli.specs.Session.{ShowsWorld, IsSince, Decides, HasRun, is_end, ends_with_end, entry_of, MayRun, stage_of}
-use Rattle.sis_cli.proofs.Added.{good_added, any-append}
 
 run_push : (s mid last : Stage) (es : List Entry) (e : Entry) → IsRun s es mid → IsStep mid e last
     → IsRun s (es ++ e ∷ []) last
 run_push s mid last [] e h step = (last, subst (λ (t : Stage). IsStep t e last) h step, refl)
 run_push s mid last (x ∷ es) e h step = (h.0, h.1, run_push h.0 mid last es e h.2 step)
-
--- ---- files that go together
-
-put_good : (v new : VolumeTable) (name bytes : List ℕ) (r : Reply) → PutChanges v name bytes r new
-    → IsGood v → IsGood new
-put_good v new name bytes reply.Done h good = good_added v new name bytes h good
-put_good v new name bytes (reply.Opened number) h good = subst IsGood (sym h) good
-put_good v new name bytes (reply.Read more_bytes) h good = subst IsGood (sym h) good
-put_good v new name bytes (reply.Closed fate) h good = subst IsGood (sym h) good
-put_good v new name bytes (reply.Sized size) h good = subst IsGood (sym h) good
-put_good v new name bytes (reply.Names names more) h good = subst IsGood (sym h) good
-put_good v new name bytes (reply.Told kind) h good = subst IsGood (sym h) good
-put_good v new name bytes (reply.Space used_now total) h good = subst IsGood (sym h) good
-put_good v new name bytes (reply.Groveled report) h good = subst IsGood (sym h) good
-put_good v new name bytes (reply.Ended closed unsettled) h good = subst IsGood (sym h) good
-put_good v new name bytes reply.InvalidOpen h good = subst IsGood (sym h) good
-put_good v new name bytes reply.InvalidParameter h good = subst IsGood (sym h) good
-put_good v new name bytes (reply.InvalidRequest fault) h good = subst IsGood (sym h) good
-put_good v new name bytes reply.InvalidDeviceRequest h good = subst IsGood (sym h) good
-put_good v new name bytes reply.AccessDenied h good = subst IsGood (sym h) good
-put_good v new name bytes reply.NotShared h good = subst IsGood (sym h) good
-put_good v new name bytes reply.NameInvalid h good = subst IsGood (sym h) good
-put_good v new name bytes reply.NotFound h good = subst IsGood (sym h) good
-put_good v new name bytes reply.Collision h good = subst IsGood (sym h) good
-put_good v new name bytes reply.InUse h good = subst IsGood (sym h) good
-put_good v new name bytes reply.NotSameDevice h good = subst IsGood (sym h) good
-put_good v new name bytes (reply.Unsettled left) h good = subst IsGood (sym h) good
-put_good v new name bytes (reply.Hindered by) h good = subst IsGood (sym h) good
-
-pub change_good : (v new : VolumeTable) (c : Command) (r : Reply) → Changes v c r new → IsGood v
-    → IsGood new
-change_good v new (command.Put name bytes) r h good = put_good v new name bytes r h good
-change_good v new (command.Open name write) r h good = subst IsGood (sym h) good
-change_good v new (command.Read number at len) r h good = subst IsGood (sym h) good
-change_good v new (command.Write number at bytes) r h good = subst IsGood (sym h) good
-change_good v new (command.Size number len) r h good = subst IsGood (sym h) good
-change_good v new (command.Close number) r h good = subst IsGood (sym h) good
-change_good v new (command.Remove name) r h good = subst IsGood (sym h) good
-change_good v new (command.Rename old other) r h good = subst IsGood (sym h) good
-change_good v new (command.Stat name) r h good = subst IsGood (sym h) good
-change_good v new (command.List after) r h good = subst IsGood (sym h) good
-change_good v new (command.Tell name) r h good = subst IsGood (sym h) good
-change_good v new command.Space r h good = subst IsGood (sym h) good
-change_good v new (command.Fsctl code bytes) r h good = subst IsGood (sym h) good
-change_good v new command.Sync r h good = subst IsGood (sym h) good
-change_good v new command.Grovel r h good = subst IsGood (sym h) good
-change_good v new command.End r h good = subst IsGood (sym h) good
-
--- a run leaves files that go together
-pub run_good : (s last : Stage) (es : List Entry) → IsRun s es last → IsGood s.table
-    → IsGood last.table
-run_good s last [] h good = subst (λ (t : Stage). IsGood t.table) (sym h) good
-run_good s last (e ∷ es) h good =
-    run_good h.0 last es h.2 (change_good s.table h.0.table e.command e.reply h.1.changes good)
 
 -- ---- one entry more
 
@@ -202,7 +145,7 @@ ran_more old mid new es after l r at ran d is at_is =
           λ before h. since_more before mid new l.command r d.elapses d.down (ran.since before h);
       elapses = elapses_on old mid new ran.elapses d.elapses;
       down = λ up.
-          any-append (λ (x : Entry). is_down x.reply) es (e ∷ [])
+          list_any-append (λ (x : Entry). is_down x.reply) es (e ∷ [])
           ∙ ap (λ (b : Bool). b || (is_down r || false)) (ran.down up)
           ∙ down_more mid.down new.down (stage_of mid) (stage_of new) l.command r d.down;
       committed =

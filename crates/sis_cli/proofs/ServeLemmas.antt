@@ -26,7 +26,7 @@ use Rattle.sis_cli.specs.Session.{ShowsWorld, stage_of}
 use Rattle.sis_cli.specs.Run.{IsScript, IsGoodImage, IsOnlyOpened, Counts, ExecCause, RunsScript, HasCalls, SparesExec, table_in, table_or, untold, Starts, CauseOfEnd, LeavesRun, Serves}
 use Rattle.sis_cli.specs.declared.exit.Exit.{Exit}
 use Rattle.sis_cli.specs.declared.exit.Exit.TheVariants as exit
-use Rattle.sis_cli.proofs.Sizes.{sizes-files_of}
+use Rattle.sis_table.proofs.CallerLemmas.{length-files_of}
 use Rattle.sis_cli.proofs.Surviving.{opened_survives, run_in_order}
 use Rattle.sis_cli.proofs.Worlds.{shows_files}
 
@@ -137,13 +137,13 @@ opens_as None v size is all sized is_table good image =
     record {
       world = unopened v.table.layout.letter (files_of v.table zeros);
       shows =
-          shows_files v zeros (λ q. sizes-files_of v.table zeros q is_table
+          shows_files v zeros (λ q. length-files_of v.table zeros q is_table
           (length-replicate (4096 * v.table.layout.total) 0))
           (subst (λ (o : Option (List ℕ)). IfSome (option_map (files_of v.table) o)
           (λ files. files ≡ files_of v.table zeros)) (sym is) tt);
       starts =
           shows_files (untold v.table) zeros
-          (λ q. sizes-files_of v.table zeros q is_table
+          (λ q. length-files_of v.table zeros q is_table
           (length-replicate (4096 * v.table.layout.total) 0)) tt;
       opens = tt;
     }
@@ -153,7 +153,7 @@ opens_as (Some r) v size is all sized is_table good image =
     record {
       world = unopened v.table.layout.letter (files_of v.table m);
       shows =
-          shows_files v m (λ q. sizes-files_of v.table m q is_table (sized ∙ all))
+          shows_files v m (λ q. length-files_of v.table m q is_table (sized ∙ all))
           (subst (λ (o : Option (List ℕ)). IfSome (option_map (files_of v.table) o)
           (λ files. files ≡ files_of v.table m)) (sym is) refl);
       starts = (ap (λ (t : VolumeTable). unopened t.layout.letter (files_of t m)) table, table);

@@ -19,7 +19,6 @@ use Rattle.sis_model.specs.declared.command.Command.{Command}
 use Rattle.sis_model.specs.declared.history.Entry.{Entry}
 use Rattle.sis_model.specs.declared.history.Line.{Line}
 use Rattle.sis_model.specs.declared.reply.Reply.{Reply}
-use Rattle.sis_table.specs.Good.{IsGood}
 use Rattle.sis_table.specs.Opens.{OpensAs}
 use Rattle.sis_volume.specs.Stopping.{OpensNow, StopsWell}
 use Rattle.sis_volume.specs.View.{VolumeView}
@@ -27,7 +26,6 @@ use Rattle.sis_volume.proofs.Stopping.{opens_table}
 use Rattle.sis_cli.specs.Session.{Decides, HasRun, ShowsWorld, entry_of, stage_of}
 use Rattle.sis_cli.specs.Stages.{AnswersDown, IsRun, Stage}
 use Rattle.sis_cli.specs.Stops.{IsDurable, IsSurvived, SurvivesRun}
-use Rattle.sis_cli.proofs.Runs.{change_good, run_good}
 
 -- ---- a step
 
@@ -38,10 +36,10 @@ stays_down before now at s t c r is goes up =
     absurd (let e = sym up ∙ down in cc)
 
 calls_went : (first : ℕ) (w : World) (es : List Entry) (mid new : VolumeView) (client : ℕ)
-    (c : Command) (r : Reply) → ShowsWorld (world_after w es) mid → IsGood mid.table
+    (c : Command) (r : Reply) → ShowsWorld (world_after w es) mid
     → Decides mid new client c r → StopsWell mid new → IsCounted new.seen
     → IsSurvived first w es mid → IsSurvived first w es new
-calls_went first w es mid new client c r shows good d stops counted before = by mid.down refl
+calls_went first w es mid new client c r shows d stops counted before = by mid.down refl
   where
     by : (o : Option ℕ) → mid.down ≡ o → IsSurvived first w es new
     by None is =
@@ -49,7 +47,7 @@ calls_went first w es mid new client c r shows good d stops counted before = by 
         let now = (world_after w es).files in
         let went =
         stops.up is committed.0 now
-        (record { good = good; stands = shows.stands; opens = committed.2 }) in
+        (record { stands = shows.stands; opens = committed.2 }) in
         record {
           survives =
               survives_calls first w es mid.seen new.seen before.survives counted
@@ -73,10 +71,10 @@ calls_went first w es mid new client c r shows good d stops counted before = by 
 
 entry_added : (first : ℕ) (w : World) (es : List Entry) (e : Entry) (v : VolumeView)
     → IsCounted v.seen → e.decided ≡ v.seen.calls → e.answered ≡ v.seen.calls
-    → ShowsWorld (world_with (world_after w es) e.client e.command e.reply) v → IsGood v.table
+    → ShowsWorld (world_with (world_after w es) e.client e.command e.reply) v
     → IsDurable v e.command e.reply
     → IsSurvived first w es v → IsSurvived first w (es ++ e ∷ []) v
-entry_added first w es e v counted decided answered shows good durable before =
+entry_added first w es e v counted decided answered shows durable before =
     by (is_durable e) refl
   where
     early : e.decided ≤ v.seen.calls
@@ -95,7 +93,7 @@ entry_added first w es e v counted decided answered shows good durable before =
     by true is =
         let next = world_with (world_after w es) e.client e.command e.reply in
         let opens : OpensNow next.files v.seen =
-        opens_table v.table v.seen next.files (durable is good) shows.stands in
+        opens_table v.table v.seen next.files (durable is) shows.stands in
         record {
           survives =
               survives_durable first w es e v.seen counted early late
@@ -109,7 +107,7 @@ entry_added first w es e v counted decided answered shows good durable before =
 
 -- nothing ran
 pub survives_none : (v : VolumeView) → SurvivesRun v v []
-survives_none v first w shows good before = before
+survives_none v first w shows before = before
 
 -- what ran, and one command more
 pub survives_more : (old mid new : VolumeView) (es after : List Entry) (l : Line) (r : Reply)
@@ -118,17 +116,13 @@ pub survives_more : (old mid new : VolumeView) (es after : List Entry) (l : Line
     → after ≡ es ++ entry_of l r at ∷ [] → at ≡ new.seen.calls
     → SurvivesRun old mid es → SurvivesRun old new after
 survives_more old mid new es after l r at ran d durable stops counted is at_is so_far first w shows
-    good begun =
+    begun =
     let e = entry_of l r at in
     let shown = (ran.world w shows).1 in
-    let good_mid = run_good (stage_of old) (stage_of mid) es ran.kept good in
-    let good_new = change_good mid.table new.table l.command r d.changes good_mid in
     let went =
-    calls_went first w es mid new l.client l.command r shown good_mid d stops counted
-    (so_far first w shows good begun) in
+    calls_went first w es mid new l.client l.command r shown d stops counted (so_far first w shows begun) in
     subst (λ (xs : List Entry). IsSurvived first w xs new) (sym is)
-    (entry_added first w es e new counted at_is at_is (d.world (world_after w es) shown).1 good_new
-    durable went)
+    (entry_added first w es e new counted at_is at_is (d.world (world_after w es) shown).1 durable went)
 
 -- ---- the order of entries
 

@@ -1,5 +1,5 @@
 -- What a volume shows of a world, before a command and after it.
-use Rattle.std.proofs.Common.{◌≡◌, ℕ, ◌+◌, Bool, true, false, cond, ◌||◌, List, [], ◌∷◌, ◌++◌, length, map, Option, None, Some, refl, sym, ap, subst, ◌∙◌}
+use Rattle.std.proofs.Common.{◌≡◌, ℕ, ◌+◌, Bool, true, false, cond, ◌||◌, List, [], ◌∷◌, ◌++◌, length, Option, None, Some, refl, sym, ap, subst, ◌∙◌}
 use Rattle.std.specs.Prelude.{IfSome, find}
 use Rattle.std.specs.List.{list_any}
 use Rattle.std.specs.Option.{option_map}
@@ -11,30 +11,16 @@ use Rattle.std.specs.declared.cmp.Ordering.TheVariants.{Less, Equal, Greater}
 use Rattle.sis_name.specs.Files.{Files, same_name}
 use Rattle.sis_name.specs.Units.{name_cmp, name_total, name_ties}
 use Rattle.sis_model.specs.World.{World, unopened, with_file}
-use Rattle.sis_model.proofs.WorldLemmas.{put_key, keys_from, keys-insert, keys-from_entries}
+use Rattle.sis_model.proofs.WorldLemmas.{put_key, keys-insert}
+use Rattle.sis_table.specs.Changes.{made_file}
 use Rattle.sis_table.specs.declared.node.Node.{Node}
 use Rattle.sis_table.specs.Volume.{VolumeTable, has_name, node_named, ids_of}
 use Rattle.sis_table.specs.Content.{files_in, files_of, content_of}
-use Rattle.sis_table.proofs.ContentLemmas.{files_of-made, same_test}
+use Rattle.sis_table.proofs.CallerLemmas.{files_of-made, keys-files_of}
+use Rattle.sis_table.proofs.ContentLemmas.{same_test}
 use Rattle.sis_volume.specs.View.{VolumeView}
 use Rattle.sis_cli.specs.Stages.{AddsFile}
 use Rattle.sis_cli.specs.Session.{ShowsWorld}
-
--- ---- the names of files
-
-names_mapped : {X : Type 0} (f : Node → X) (nodes : List Node)
-    → map (λ (e : List ℕ × X). e.0) (map (λ (n : Node). (n.name, f n)) nodes) ≡ map
-    (λ (n : Node). n.name) nodes
-names_mapped f [] = refl
-names_mapped f (n ∷ ns) = ap (λ (ks : List (List ℕ)). n.name ∷ ks) (names_mapped f ns)
-
--- the names of the files that a table stands for are those of its index
-keys-files_of : (v : VolumeTable) (live : List ℕ) → keys (files_of v live) ≡ keys (ids_of v)
-keys-files_of v live =
-    keys-from_entries (map (λ n. (n.name, content_of n live)) v.nodes)
-    ∙ ap keys_from (names_mapped (λ n. content_of n live) v.nodes
-    ∙ sym (names_mapped (λ n. n.id) v.nodes))
-    ∙ sym (keys-from_entries (map (λ n. (n.name, n.id)) v.nodes))
 
 -- ---- a file under a new name
 
@@ -95,7 +81,7 @@ stands_with (Some fs) new files name bytes e h =
 abbrev added_node : (v : VolumeTable) (name bytes : List ℕ) (new : VolumeTable)
     → AddsFile v new name bytes → Node
 added_node v name bytes new adds =
-    record { id = v.next_id; name = name; size = length bytes; version = 1; runs = adds.runs }
+    made_file v.next_id name (length bytes) adds.places
 
 -- the world with the file, and the volume that has it
 pub shows_more : (w : World) (old new : VolumeView) (name bytes : List ℕ) → ShowsWorld w old
@@ -113,7 +99,7 @@ shows_more w old new name bytes h free adds files =
       names =
           keys-insert w.files name bytes
           ∙ ap (put_key name) (h.names ∙ sym (keys-files_of old.table []))
-          ∙ sym (keys-insert (files_of old.table []) name (content_of n []))
+          ∙ sym (keys-insert (files_of old.table []) name (content_of old.table [] n))
           ∙ ap keys (sym (files_of-made old.table n (old.table.next_id + 1) [] free))
           ∙ keys-files_of u [] ∙ ap (λ (t : VolumeTable). keys (ids_of t)) (sym adds.added);
       sizes = λ q.

@@ -1,18 +1,18 @@
 -- How a file is made, and why it is not.
-use Rattle.std.specs.Prelude.{◌≡◌, ℕ, ◌+◌, ◌<◌, ◌≤◌, List, ◌∷◌, length, map, flat_map, take, Option, None, Some, IfSome, ⊤}
+use Rattle.std.specs.Prelude.{◌≡◌, ℕ, ◌+◌, ◌<◌, ◌≤◌, true, List, length, flat_map, take, Option, None, Some, IfSome, ⊤}
 use Rattle.sis_disk.specs.Causes.{GoesDown}
 use Rattle.sis_disk.specs.Layout.{data_blocks, first_byte}
 use Rattle.sis_disk.specs.Record.{Rose}
 use Rattle.sis_model.specs.declared.reply.Hindrance.{Hindrance}
 use Rattle.sis_model.specs.declared.reply.Hindrance.TheVariants as hindrance
-use Rattle.sis_table.specs.Volume.{VolumeTable, IsTable, blocks_of, used, greatest_size}
-use Rattle.sis_table.specs.Runs.{IsChain}
-use Rattle.sis_table.specs.Edits.{MayMake, map_edit}
+use Rattle.sis_ranges.specs.declared.run.Run.{Run}
+use Rattle.sis_ranges.specs.Extents.{IsChain}
+use Rattle.sis_table.specs.Changes.{are_free, make_edits, places_by}
 use Rattle.sis_table.specs.Content.{run_bytes}
-use Rattle.sis_table.specs.declared.runs.Run.{Run}
+use Rattle.sis_table.specs.Edits.{MayMake}
+use Rattle.sis_table.specs.Volume.{VolumeTable, IsTable, blocks_of, used, greatest_size}
 use Rattle.sis_table.specs.declared.edit.Edit.{Edit}
-use Rattle.sis_table.specs.declared.edit.Edit.TheVariants as edit
-use Rattle.sis_volume.specs.Staging.{AreFree}
+use Rattle.sis_table.specs.declared.kind.NodeKind.TheVariants.{Plain}
 use Rattle.sis_cli.specs.Stages.{IsTooLong}
 use Rattle.sis_volume.specs.View.{VolumeView}
 
@@ -39,18 +39,13 @@ IsDownBy (hindrance.TableFull needed cap) down = down ≡ None
 IsDownBy hindrance.Disk down = down ≡ None
 IsDownBy hindrance.Memory down = down ≡ None
 
--- the edits that make a file whose blocks lie in these runs
-abbrev pub put_of : ℕ → List ℕ → ℕ → List Run → List Edit
-put_of id name size runs = edit.Make id name ∷ edit.Size id size ∷ map (map_edit id) runs
-
--- These edits make the file: its bytes were written to these runs, which no file maps.
+-- These edits make the file: its bytes were written to these runs, at places that no file maps.
 pub record StagesFile (v : VolumeTable) (name bytes : List ℕ) (live : Option (List ℕ))
     (es : List Edit) (runs : List Run) : Type 0 where
   pub table : IsTable v
-  pub make : MayMake v v.next_id name
+  pub make : MayMake v v.next_id Plain name
   pub limit : length bytes ≤ greatest_size
-  pub edits : es ≡ put_of v.next_id name (length bytes) runs
+  pub edits : es ≡ make_edits v.next_id name (length bytes) runs
   pub chain : IsChain 0 (blocks_of (length bytes)) runs
-  pub end : ℕ
-  pub free : AreFree v 0 end runs
+  pub free : are_free v (places_by runs) ≡ true
   pub written : IfSome live (λ now. take (length bytes) (flat_map (run_bytes now) runs) ≡ bytes)

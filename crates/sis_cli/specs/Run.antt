@@ -259,7 +259,7 @@ abbrev pub untold : VolumeTable → VolumeView
 untold v = record {
   seen = record { size = 0; calls = 0; faults = 0; told = None };
   table = v;
-  held = [];
+  committed = [];
   is_changed = false;
   down = None;
 }

@@ -1,6 +1,6 @@
 -- How the files are kept from one step of a run to the next, and what a reply says of the table
 -- before its step.
-use Rattle.std.specs.Prelude.{◌≡◌, ◌⊎◌, ℕ, ◌+◌, ◌<◌, ◌≤◌, Bool, true, false, if◌then◌else◌, nat_lt, List, [], ◌∷◌, ◌++◌, length, Option, None, Some, ⊤}
+use Rattle.std.specs.Prelude.{◌≡◌, ◌⊎◌, ℕ, ◌+◌, ◌<◌, ◌≤◌, Bool, true, false, if◌then◌else◌, nat_lt, List, [], ◌∷◌, length, Option, None, Some, ⊤}
 use Rattle.std.specs.List.{list_any}
 use Rattle.sis_disk.specs.Layout.{data_blocks, table_cap}
 use Rattle.sis_disk.specs.Record.{Rose}
@@ -13,10 +13,8 @@ use Rattle.sis_model.specs.declared.reply.LimitKind.TheVariants as limit
 use Rattle.sis_model.specs.declared.reply.Hindrance.{Hindrance}
 use Rattle.sis_model.specs.declared.reply.Hindrance.TheVariants as hindrance
 use Rattle.sis_model.specs.declared.history.Entry.{Entry}
-use Rattle.sis_table.specs.declared.runs.Run.{Run}
-use Rattle.sis_table.specs.Runs.{has_place, blocks_in}
-use Rattle.sis_table.specs.Volume.{VolumeTable, blocks_of, used, is_used, greatest_number, most_nodes, IsTable}
-use Rattle.sis_table.specs.Good.{AreClear}
+use Rattle.sis_table.specs.Changes.{AreFreePlaces, with_file}
+use Rattle.sis_table.specs.Volume.{VolumeTable, blocks_of, used, greatest_number, most_nodes, IsTable}
 use Rattle.sis_table.specs.Spelling.{spelling}
 
 -- the limit that one more file would pass
@@ -42,23 +40,12 @@ abbrev pub put_hindrance : VolumeTable → ℕ → Option Hindrance
 put_hindrance v size = limit_or (limit_of_new v) (full_for v (blocks_of size))
 
 -- The table has one more plain file, of version 1, and is a table again. The file maps all its
--- blocks, each at a place of its own that no other file maps.
+-- blocks, each at a place of its own: that of a data block that no other file maps.
 pub record AddsFile (v new : VolumeTable) (name bytes : List ℕ) : Type 0 where
-  pub runs : List Run
-  pub added : new ≡ record v {
-    next_id = v.next_id + 1;
-    nodes = v.nodes ++ record {
-      id = v.next_id;
-      name = name;
-      size = length bytes;
-      version = 1;
-      runs = runs;
-    } ∷ [];
-  }
+  pub places : List ℕ
+  pub free : AreFreePlaces v (blocks_of (length bytes)) places
+  pub added : new ≡ with_file name (length bytes) places v
   pub is_table : IsTable new
-  pub whole : blocks_in runs ≡ blocks_of (length bytes)
-  pub free : (place : ℕ) → list_any (has_place place) runs ≡ true → is_used v.nodes place ≡ false
-  pub clear : AreClear runs
 
 -- the table with this file would have this length, which is above the greatest one
 pub record IsTooLong (v : VolumeTable) (name bytes : List ℕ) (needed cap : ℕ) : Type 0 where

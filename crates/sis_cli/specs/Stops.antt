@@ -9,14 +9,13 @@ use Rattle.sis_model.specs.declared.command.Command.{Command}
 use Rattle.sis_model.specs.declared.reply.Reply.{Reply}
 use Rattle.sis_model.specs.declared.history.Entry.{Entry}
 use Rattle.sis_name.specs.Files.{Files}
-use Rattle.sis_table.specs.Good.{IsGood}
 use Rattle.sis_volume.specs.Stopping.{OpensNow, OpensTable}
 use Rattle.sis_volume.specs.View.{VolumeView}
 use Rattle.sis_cli.specs.Session.{ShowsWorld}
 
 -- where the reply says that all is durable, each image of now opens as the table's files
 abbrev pub IsDurable : VolumeView → Command → Reply → Type 0
-IsDurable v c r = makes_durable c r ≡ true → IsGood v.table → OpensTable v.table v.seen
+IsDurable v c r = makes_durable c r ≡ true → OpensTable v.table v.seen
 
 -- What a run keeps between two steps: each stop since call `first` is survived, and unless a commit
 -- failed each image of now opens as files that are committed.
@@ -28,8 +27,8 @@ pub record IsSurvived (first : ℕ) (w : World) (entries : List Entry) (v : Volu
 -- entries that were decided from old to new keep that
 abbrev pub SurvivesRun : VolumeView → VolumeView → List Entry → Type 0
 SurvivesRun old new entries =
-    (first : ℕ) (w : World) → ShowsWorld w old → IsGood old.table
-    → IsSurvived first w [] old → IsSurvived first w entries new
+    (first : ℕ) (w : World) → ShowsWorld w old → IsSurvived first w [] old
+    → IsSurvived first w entries new
 
 -- call number n of the record is a sync that succeeded
 abbrev pub SyncsAt : ℕ → DiskRecord → Type 0

@@ -7,11 +7,11 @@ ghost use Rattle.sis_disk.specs.Stops.{Elapses};
 ghost use Rattle.sis_disk.specs.Layout.{data_blocks};
 ghost use Rattle.sis_name.specs.Name.{IsName};
 ghost use Rattle.sis_name.specs.Units.{is_store_name};
-ghost use Rattle.sis_table.specs.declared.edit.Edit.TheVariants as edit;
+ghost use Rattle.sis_ranges.specs.declared.run.Run.{Run as ARun};
+ghost use Rattle.sis_table.specs.Changes.{make_edits};
 ghost use Rattle.sis_table.specs.Volume.{IsTable, blocks_of, used, has_name, greatest_number, most_nodes};
 ghost use Rattle.sis_table.specs.Content.{files_in};
 ghost use Rattle.sis_disk.specs.Record.{live_of};
-ghost use Rattle.sis_table.specs.declared.runs.Run.{Run as ARun};
 ghost use Rattle.sis_cli.specs.Making.{HindersMaking, IsDownBy, StagesFile};
 ghost use Rattle.sis_cli.specs.Stages.{AddsFile, limit_of_new};
 ghost use Rattle.sis_volume.specs.Stopping.{StopsWell};
@@ -19,7 +19,7 @@ ghost use Rattle.sis_volume.specs.Stopping.{StopsWell};
 use sis_disk::Disk;
 use sis_model::Hindrance;
 use sis_name::Name;
-use sis_table::Edit;
+use sis_table::{Edit, NodeKind};
 use sis_volume::{Txn, Volume};
 use std::alloc::{AllocError, Global};
 
@@ -48,15 +48,14 @@ fn whole_blocks(alloc: Global, bytes: &[u8]) -> Result<Vec<u8>, AllocError>
 
 // The edits that make a file of this size whose blocks are zeros.
 fn new_file(alloc: Global, id: u64, name: &Name, size: u64) -> Result<Txn, Hindrance>
-    ensures edits { IfOk result (λ txn. txn.edits
-        ≡ edit.Make id name.now ∷ edit.Size id size ∷ []) }
-    ensures from { IfOk result (λ txn. txn.from ≡ 0) }
+    ensures edits { IfOk result (λ txn. txn.edits ≡ make_edits id name.now size []) }
     ensures name { IfOk result (λ txn. IsName name.now) }
     ensures memory { IfErr result (λ by. by ≡ Hindrance.Memory) }
 {
     let mut txn = Txn::begin(alloc);
     txn.push(Edit::Make {
         id,
+        kind: NodeKind::Plain,
         name: name.copy(alloc)?,
     })?;
     txn.push(Edit::Size { id, size })?;

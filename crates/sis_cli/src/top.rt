@@ -3,7 +3,6 @@ ghost use Rattle.std.specs.Prelude.{◌≡◌, ◌⊎◌, ◌*◌, ◌≤◌, �
 ghost use Rattle.sis_disk.specs.Layout.{IsLayout};
 ghost use Rattle.sis_disk.specs.Record.{live_of};
 ghost use Rattle.sis_disk.specs.Streams.{Appended, AppendedFront};
-ghost use Rattle.sis_table.specs.Good.{IsGood};
 ghost use Rattle.sis_table.specs.Volume.{IsTable};
 ghost use Rattle.sis_script.specs.Printed.{printed};
 ghost use Rattle.sis_script.specs.Script.{IsBuilt};
@@ -30,7 +29,6 @@ fn exec_lines<D: Disk, K: Sink>(
     out: &mut K,
 ) -> Ended<D>
     requires up { volume.down ≡ None }
-    requires good { IsGood volume.table }
     requires clean { volume.is_changed ≡ false }
     requires built { All (λ l. IsBuilt l.command) lines.items }
     ensures runs { (before : ℕ) → before ≤ volume.seen.faults
@@ -53,6 +51,7 @@ fn exec_lines<D: Disk, K: Sink>(
         Ok(history) => {
             let printed = print_history(alloc, &history, out);
             let is_down = volume.down().is_some();
+            let _ = volume.layout();
             Ended {
                 ending: Ending::Ran { printed, is_down },
                 history,

@@ -1,14 +1,16 @@
 -- No fault of reading a table is behind its bytes.
-use Rattle.std.proofs.Common.{◌≡◌, ℕ, zero, suc, ◌≤◌, Bool, true, false, List, length, Option, arith}
+use Rattle.std.proofs.Common.{◌≡◌, ℕ, zero, suc, ◌≤◌, Bool, true, false, List, length, Option, Some, None, arith}
 use Rattle.std.specs.Prelude.{Result, Ok, Err, IfErr, ⊤}
+use Rattle.std.specs.Option.{ok_or}
 use Rattle.sis_disk.specs.declared.layout.Layout.{Layout}
 use Rattle.sis_disk.specs.declared.layout.TableKind.{TableKind}
 use Rattle.sis_table.specs.Volume.{VolumeTable}
-use Rattle.sis_table.specs.declared.runs.Run.{Run}
+use Rattle.sis_ranges.specs.declared.run.Run.{Run}
 use Rattle.sis_table.specs.declared.node.Node.{Node}
+use Rattle.sis_table.specs.declared.kind.NodeKind.{NodeKind}
 use Rattle.sis_table.specs.declared.fault.TableFault.{TableFault}
 use Rattle.sis_table.specs.declared.fault.TableFault.TheVariants as table
-use Rattle.sis_table.specs.Reading.{Fault, IsWithin, number_at, units_at, named_at, run_at, runs_at, node_at, nodes_at, head_at, table_at, here, named}
+use Rattle.sis_table.specs.Reading.{Fault, IsWithin, number_at, units_at, kind_at, named_at, run_at, runs_at, map_at, node_at, nodes_at, head_at, table_at, here, named}
 use Rattle.sis_reading.specs.Steps.{◌>>=◌}
 use Rattle.sis_reading.specs.Steps.{Fails, Gives, guard}
 
@@ -38,9 +40,17 @@ units_within : (n : ℕ) (bytes : List ℕ) → Within n (units_at n bytes)
 unfolding units_at
 units_within n bytes = search (then_within, guard_within, number_within, ok_within)
 
+kind_within : (n : ℕ) (o : Option NodeKind) (rule : TableKind) (bytes : List ℕ) → Within n (ok_or o (here n bytes rule))
+kind_within n None rule bytes = record { below = omega arith }
+kind_within n (Some x) rule bytes = record { below = tt }
+
+kind_at_within : (n : ℕ) (bytes : List ℕ) → Within n (kind_at n bytes)
+unfolding kind_at
+kind_at_within n bytes = search (then_within, kind_within, number_within, ok_within)
+
 named_within : (n : ℕ) (front : List Node) (bytes : List ℕ) → Within n (named_at n front bytes)
 unfolding named_at
-named_within n front bytes = search (then_within, guard_within, number_within, ok_within, units_within)
+named_within n front bytes = search (then_within, guard_within, kind_at_within, ok_within, units_within)
 
 run_within : (n : ℕ) (l : Layout) (blocks : ℕ) (before : Option Run) (bytes : List ℕ) → Within n (run_at n l blocks before bytes)
 unfolding run_at
@@ -53,9 +63,13 @@ runs_within n l blocks before (suc k) bytes =
     let others : (r : Option Run) (rest : List ℕ) → Within n (runs_at n l blocks r k rest) = λ r rest. runs_within n l blocks r k rest in
     search (then_within, ok_within, run_within, others)
 
+map_within : (n : ℕ) (l : Layout) (blocks k : ℕ) (bytes : List ℕ) → Within n (map_at n l blocks k bytes)
+unfolding map_at
+map_within n l blocks k bytes = search (then_within, ok_within, runs_within)
+
 node_within : (n : ℕ) (l : Layout) (next : ℕ) (front : List Node) (bytes : List ℕ) → Within n (node_at n l next front bytes)
 unfolding node_at
-node_within n l next front bytes = search (then_within, guard_within, number_within, ok_within, named_within, runs_within) depth 20
+node_within n l next front bytes = search (then_within, guard_within, number_within, ok_within, named_within, map_within) depth 20
 
 nodes_within : (n : ℕ) (l : Layout) (next : ℕ) (front : List Node) (k : ℕ) (bytes : List ℕ) → Within n (nodes_at n l next front k bytes)
 unfolding nodes_at

@@ -1,15 +1,16 @@
 -- How long the texts of a table are.
-use Rattle.std.proofs.Common.{◌≡◌, ℕ, ◌+◌, ◌*◌, ◌≤◌, List, [], ◌∷◌, ◌++◌, length, flat_map, sum_by, refl, arith, length-append, sym, subst}
-use Rattle.std.specs.List.{AllByRecursion, All}
+use Rattle.std.proofs.Common.{◌≡◌, ℕ, ◌+◌, ◌*◌, ◌≤◌, List, [], ◌∷◌, ◌++◌, length, flat_map, sum_by, refl, arith, length-append}
+use Rattle.std.specs.List.{AllByRecursion}
 use Rattle.std.proofs.lemmas.Bool.Decides.{nat_tests}
-use Rattle.std.proofs.lemmas.List.Elements.{All-from_recursion}
 use Rattle.std.proofs.lemmas.List.Sums.{sum_by-cons}
 use Rattle.sis_disk.specs.declared.layout.Layout.{Layout}
 use Rattle.sis_name.specs.Name.{IsName}
 use Rattle.sis_table.specs.Spelling.{le2, le4, le8, run_text, name_text, runs_text, node_text, node_len, spelling, IsShort}
-use Rattle.sis_table.specs.Runs.{AreRuns}
-use Rattle.sis_table.specs.Volume.{VolumeTable, IsTable, IsNode, IsPlaced, AreNodes, blocks_of, greatest_size}
-use Rattle.sis_table.specs.declared.runs.Run.{Run}
+use Rattle.sis_ranges.specs.declared.run.Run.{Run}
+use Rattle.sis_ranges.specs.Extents.{runs_of}
+use Rattle.sis_table.specs.Kinds.{kind_byte}
+use Rattle.sis_table.specs.Volume.{VolumeTable, IsNode, AreNodes, blocks_of, greatest_size}
+use Rattle.sis_table.proofs.MapLemmas.{length-runs_of}
 use Rattle.sis_table.specs.declared.node.Node.{Node}
 
 pub length_le2 : (n : ℕ) → length (le2 n) ≡ 2
@@ -57,17 +58,17 @@ unfolding node_text
 length_node_text n =
     let a = le8 n.id in
     let b = name_text n.name in
-    let c : List ℕ = 0 ∷ [] in
+    let c : List ℕ = kind_byte n.kind ∷ [] in
     let d = le8 n.size in
     let e = le8 n.version in
-    let f = runs_text n.runs in
+    let f = runs_text (runs_of n.map) in
     omega (
       arith,
       length_le8 n.id,
       length_name_text n.name,
       length_le8 n.size,
       length_le8 n.version,
-      length_runs_text n.runs,
+      length_runs_text (runs_of n.map),
       length-append a b,
       length-append (a ++ b) c,
       length-append (a ++ b ++ c) d,
@@ -98,17 +99,6 @@ length-spelling v =
       length-append (a ++ b ++ c) (flat_map node_text v.nodes),
     )
 
--- A run has a block at least, so there are no more runs than blocks.
-runs_fit : (l : Layout) (blocks : ℕ) (r : Run) (rs : List Run) → AreRuns (r ∷ rs) → AllByRecursion (IsPlaced l blocks) (r ∷ rs)
-    → r.first + length (r ∷ rs) ≤ blocks
-runs_fit l blocks r [] runs placed = omega (arith, runs.0, placed.0.block)
-runs_fit l blocks r (s ∷ rs) runs placed =
-    omega (arith, runs.0, runs.1.0, runs_fit l blocks s rs runs.2 placed.1)
-
-length_runs : (l : Layout) (blocks : ℕ) (runs : List Run) → AreRuns runs → AllByRecursion (IsPlaced l blocks) runs → length runs ≤ blocks
-length_runs l blocks [] runs placed = omega arith
-length_runs l blocks (r ∷ rs) runs placed = omega (arith, runs_fit l blocks r rs runs placed)
-
 pub blocks_limit : (size : ℕ) → size ≤ greatest_size → blocks_of size ≤ 16777216
 blocks_limit size h = omega arith
 
@@ -118,16 +108,11 @@ length_name name h = grind (arith, nat_tests)
 pub IsShort-IsNode : (l : Layout) (n : Node) → IsNode l n → IsShort n
 IsShort-IsNode l n h = record {
   name = length_name n.name h.name;
-  runs = omega (arith, length_runs l (blocks_of n.size) n.runs h.runs h.placed, blocks_limit n.size h.size);
+  runs = omega (arith, length-runs_of l (blocks_of n.size) n.map h.placed, blocks_limit n.size h.size);
 }
 
 pub all_short : (l : Layout) (next : ℕ) (front nodes : List Node) → AreNodes l next front nodes → AllByRecursion IsShort nodes
 all_short l next front [] h = tt
 all_short l next front (n ∷ ns) h = (IsShort-IsNode l n h.3, all_short l next (front ++ n ∷ []) ns h.4)
-
--- the files of a table keep the limits that their texts need
-pub short_nodes : (v : VolumeTable) (nodes : List Node) → IsTable v → nodes ≡ v.nodes → All IsShort nodes
-short_nodes v nodes h same =
-    All-from_recursion IsShort nodes (subst (AllByRecursion IsShort) (sym same) (all_short v.layout v.next_id [] v.nodes h.nodes))
 
 pub ruleset lengths = (length-spelling)

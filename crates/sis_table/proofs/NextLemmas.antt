@@ -1,5 +1,5 @@
 -- Files in the order of their names.
-use Rattle.std.proofs.Common.{◌≡◌, ℕ, Bool, true, false, cond, ◌&&◌, not, List, [], ◌∷◌, map, filter, find, eqb, Option, Some, None, refl, sym, ap, ap₂, subst, ◌∙◌, arith}
+use Rattle.std.proofs.Common.{◌≡◌, ℕ, ◌<◌, ◌≤◌, Bool, true, false, cond, ◌&&◌, not, List, [], ◌∷◌, map, filter, find, eqb, is_some, Option, Some, None, refl, sym, ap, ap₂, subst, ◌∙◌, arith}
 use Rattle.std.specs.FinMap.{from_entries, entries, keys, same_map}
 use Rattle.std.specs.FinMap as fin
 use Rattle.std.specs.BTreeMap.{BTreeMap, IsOrdered}
@@ -19,9 +19,9 @@ use Rattle.std.specs.declared.ops.Bound.TheVariants.{Excluded, Unbounded}
 use Rattle.sis_name.specs.Units.{name_cmp, name_total, name_ties, is_after}
 use Rattle.sis_name.proofs.Named.{named, get_named, entries_named}
 use Rattle.sis_table.specs.declared.node.Node.{Node}
-use Rattle.sis_table.specs.Index.{IsIndex, AreRising, AreIndexed}
-use Rattle.sis_table.specs.Volume.{VolumeTable, ids_of, id_of, has_name, node_named, names_after, IsNextFile}
-use Rattle.sis_table.proofs.ContentLemmas.{same_test, mapped_cond}
+use Rattle.sis_table.specs.Index.{IsIndex, IsNextIn, AreRising, AreIndexed}
+use Rattle.sis_table.specs.Volume.{VolumeTable, ids_of, id_of, has_name, node_named, names_after, user_nodes, IsNextFile, IsNextNode}
+use Rattle.sis_table.proofs.ContentLemmas.{same_test, mapped_cond, user_nodes-all}
 use Rattle.sis_table.proofs.EditLemmas.{has_id}
 use Rattle.sis_table.proofs.FileLemmas.{below, same_units, some_is}
 
@@ -36,7 +36,8 @@ named_ids (n ∷ ns) name =
 
 -- under a name stands the id of the file that has it
 pub get-ids_of : (v : VolumeTable) (name : List ℕ) → fin.get (ids_of v) name ≡ option_map id_of (node_named v name)
-get-ids_of v name = get_named (map name_entry v.nodes) name ∙ named_ids v.nodes name
+get-ids_of v name =
+    get_named (map name_entry (user_nodes v)) name ∙ ap (λ (nodes : List Node). named (map name_entry nodes) name) (user_nodes-all v) ∙ named_ids v.nodes name
 
 -- the index has just the names and ids of the files
 pub entries-ids_of : (v : VolumeTable) (names : BTreeMap (List ℕ) ℕ) → IsIndex names v.nodes → IsOrdered name_cmp names → entries (ids_of v) ≡ names.entries
@@ -191,3 +192,25 @@ next_some v names after name id rest h ordered is found =
     let all : names_after v after ≡ name ∷ names_after v (Some name) =
     names_are v names after h.index ordered ∙ ap (λ (es : List (List ℕ × ℕ)). keys_of es) is ∙ ap (λ (ks : List (List ℕ)). name ∷ ks) others in
     (f.0, by_id, subst (λ (units : List ℕ). names_after v after ≡ units ∷ names_after v (Some units)) (sym named_so) all)
+
+-- ---- the next id
+
+no_id : (P : Node → Type 0) (nodes : List Node) (id : ℕ) → AllByRecursion P nodes → ((n : Node) → P n → n.id ≡ id → ⊥) → find (has_id id) nodes ≡ None
+no_id P [] id all none = refl
+no_id P (n ∷ ns) id all none = by (has_id id n) refl (no_id P ns id all.1 none)
+  where
+    by : (b : Bool) → has_id id n ≡ b → find (has_id id) ns ≡ None → cond b (Some n) (find (has_id id) ns) ≡ None
+    by true e others = absurd (none n all.0 (grind (arith, nat_tests, e)))
+    by false e others = others
+
+next_in : (v : VolumeTable) (after : ℕ) (o : Option Node) → IsNextIn v.nodes after o → IsNextNode v after (option_map id_of o)
+next_in v after None all = λ id lt. no_id (λ n. n.id ≤ after) v.nodes id all (λ n le same. omega (arith, le, same, lt))
+next_in v after (Some n) is = (
+  is.0,
+  ap is_some is.1,
+  λ id low high. no_id (λ m. after < m.id → n.id ≤ m.id) v.nodes id is.2 (λ m least same. let le = least (omega (arith, same, low)) in omega (arith, le, same, high)),
+)
+
+-- the id of the file that comes next
+pub next_id : (v : VolumeTable) (nodes : List Node) (after : ℕ) (o : Option Node) → v.nodes ≡ nodes → IsNextIn nodes after o → IsNextNode v after (option_map id_of o)
+next_id v nodes after o same is = next_in v after o (subst (λ (ns : List Node). IsNextIn ns after o) (sym same) is)

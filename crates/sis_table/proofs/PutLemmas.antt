@@ -1,29 +1,71 @@
 -- What the edits that make a file and map its blocks leave of a table.
-use Rattle.std.proofs.Common.{min, max, take, flat_map, ◌≡◌, ℕ, zero, suc, ◌+◌, ◌-◌, ◌<◌, ◌≤◌, Bool, true, false, cond, List, [], ◌∷◌, ◌++◌, length, map, get_or, Option, None, Some, count_by, refl, sym, ap, ap₂, ◌∙◌, subst, arith}
+use Rattle.std.proofs.Common.{take, flat_map, ◌≡◌, ℕ, ◌+◌, ◌-◌, ◌<◌, ◌≤◌, Bool, true, false, cond, List, [], ◌∷◌, ◌++◌, length, map, get_or, Option, None, Some, refl, sym, ap, ap₂, ◌∙◌, subst, arith}
 use Rattle.std.specs.Prelude.{◌==◌, ◌||◌, find}
 use Rattle.std.specs.List.{AllByRecursion, list_any, range_with_len}
-use Rattle.std.specs.FinMap.{insert}
-use Rattle.std.proofs.Math.Bool.{or-false, or_assoc, or_comm}
+use Rattle.std.specs.Option.{option_or}
+use Rattle.std.specs.FinMap.{FinMap, empty, get, get-empty, insert}
+use Rattle.std.specs.Ordering.{nat_cmp}
+use Rattle.std.proofs.Math.Bool.{or-false}
+use Rattle.std.proofs.lemmas.Bool.{or_left, or_right}
 use Rattle.std.proofs.lemmas.Bool.Decides.{nat_tests}
+use Rattle.std.proofs.lemmas.List.Concat.{flat_map-append}
 use Rattle.std.proofs.lemmas.List.Folds.{list_any-append}
-use Rattle.std.proofs.lemmas.List.Sums.{sum_by-append}
 use Rattle.std.proofs.lemmas.List.FromFn.{length-map-range_with_len, get_or-map-range_with_len}
 use Rattle.sis_disk.specs.declared.layout.Layout.{Layout}
 use Rattle.sis_disk.specs.Layout.{first_place, data_blocks}
-use Rattle.sis_table.specs.declared.runs.Run.{Run}
-use Rattle.sis_table.specs.declared.node.Node.{Node}
+use Rattle.sis_ranges.specs.declared.run.Run.{Run}
+use Rattle.sis_ranges.specs.Extents.{IsChain, block_end, has_block, has_place, place_end, place_of, with_blocks}
+use Rattle.sis_ranges.proofs.CallerLemmas.{get-with_blocks}
+use Rattle.sis_ranges.proofs.PlaceLemmas.{found-at, value-found}
 use Rattle.sis_table.specs.declared.edit.Edit.{Edit}
 use Rattle.sis_table.specs.declared.edit.Edit.TheVariants as edit
-use Rattle.sis_table.specs.Runs.{block_end, place_end, has_place, can_join, AreRuns, end_of, with_run, with_runs, IsChain}
-use Rattle.sis_table.specs.Volume.{VolumeTable, IsPlaced, IsTable, AreNodes, blocks_of, greatest_size, is_used, used_places, used}
-use Rattle.sis_table.specs.Edits.{made, with_size, with_map, with_node, edited, MayMake, MayMap, MaySize, IfThere, MayEdit, edited_by, MayEditBy, map_edit}
-use Rattle.sis_table.specs.Content.{run_bytes, files_of}
-use Rattle.sis_table.proofs.ContentLemmas.{chain_rises, content-put, files_of-made}
-use Rattle.sis_table.proofs.RunLemmas.{AreRuns-with_run, end_of-with_run}
+use Rattle.sis_table.specs.declared.kind.NodeKind.{NodeKind}
+use Rattle.sis_table.specs.declared.node.Node.{Node}
+use Rattle.sis_table.specs.Content.{files_of, mapped_block, own_content, run_bytes}
+use Rattle.sis_table.specs.Edits.{IfThere, MayEditBy, MayMake, MayMap, MaySize, edited, edited_by, made, map_edit, with_map, with_node, with_size}
+use Rattle.sis_table.specs.Volume.{VolumeTable, IsTable, AreNodes, blocks_of, greatest_size, is_used, maps_place, used_places}
+use Rattle.sis_table.proofs.ContentEdits.{files_of-made}
+use Rattle.sis_table.proofs.ContentLemmas.{blocks_joined, content_of-plain, range_join, same_over}
 
-may_join : (v : VolumeTable) (es fs : List Edit) → MayEditBy v es × MayEditBy (edited_by v es) fs → MayEditBy v (es ++ fs)
-may_join v [] fs h = h.1
-may_join v (e ∷ es) fs h = (h.0.0, may_join (edited v e) es fs (h.0.1, h.1))
+-- ---- layouts and places
+
+-- an edit keeps the layout, and so do edits
+pub edited-layout : (v : VolumeTable) (e : Edit) → (edited v e).layout ≡ v.layout
+edited-layout v (edit.Make id kind name) = refl
+edited-layout v (edit.Drop id) = refl
+edited-layout v (edit.Rename id name) = refl
+edited-layout v (edit.Size id size) = refl
+edited-layout v (edit.Map id first count place) = refl
+edited-layout v (edit.Unmap id first count) = refl
+edited-layout v (edit.Version id version) = refl
+
+pub edited_by-layout : (v : VolumeTable) (es : List Edit) → (edited_by v es).layout ≡ v.layout
+edited_by-layout v [] = refl
+edited_by-layout v (e ∷ es) = edited_by-layout (edited v e) es ∙ edited-layout v e
+
+-- a data block is mapped where its place is
+pub get-used_places : (v : VolumeTable) (i : ℕ) → i < data_blocks v.layout → get_or (used_places v) i false ≡ is_used v (first_place v.layout + i)
+get-used_places v i lt = get_or-map-range_with_len (is_used v) (first_place v.layout) (data_blocks v.layout) i (first_place v.layout + i) false lt refl
+
+-- there is one answer for each data block
+pub length-used_places : (v : VolumeTable) → length (used_places v) ≡ data_blocks v.layout
+length-used_places v = length-map-range_with_len (is_used v) (first_place v.layout) (data_blocks v.layout)
+
+pub same_map_over : (f g : ℕ → Bool) (xs : List ℕ) → ((x : ℕ) → f x ≡ g x) → map f xs ≡ map g xs
+same_map_over f g [] h = refl
+same_map_over f g (x ∷ xs) h = ap₂ (λ (b : Bool) (bs : List Bool). b ∷ bs) (h x) (same_map_over f g xs h)
+
+-- ---- edits in a row
+
+pub edited_by-append : (v : VolumeTable) (es fs : List Edit) → edited_by v (es ++ fs) ≡ edited_by (edited_by v es) fs
+edited_by-append v [] fs = refl
+edited_by-append v (e ∷ es) fs = edited_by-append (edited v e) es fs
+
+pub MayEditBy-append : (v : VolumeTable) (es fs : List Edit) → MayEditBy v es × MayEditBy (edited_by v es) fs → MayEditBy v (es ++ fs)
+MayEditBy-append v [] fs h = h.1
+MayEditBy-append v (e ∷ es) fs h = (h.0.0, MayEditBy-append (edited v e) es fs (h.0.1, h.1))
+
+-- ---- a new file
 
 abbrev AreBelow : ℕ → List Node → Type 0
 AreBelow id nodes = AllByRecursion (λ n. n.id < id) nodes
@@ -58,221 +100,200 @@ find-last id (m ∷ ms) n below is =
 abbrev added : VolumeTable → ℕ → Node → VolumeTable
 added v next n = record v { next_id = next; nodes = v.nodes ++ n ∷ [] }
 
-edited_by_maps : (v : VolumeTable) (next : ℕ) (n : Node) (runs : List Run) → AreBelow n.id v.nodes → edited_by (added v next n) (map (map_edit n.id) runs) ≡ added v next (record n { runs = with_runs n.runs runs })
+-- a map with the blocks of each of the runs, of the last one last
+abbrev pub with_all : FinMap nat_cmp ℕ → List Run → FinMap nat_cmp ℕ
+with_all m [] = m
+with_all m (r ∷ rs) = with_all (with_blocks m r) rs
+
+edited_by_maps : (v : VolumeTable) (next : ℕ) (n : Node) (runs : List Run) → AreBelow n.id v.nodes → edited_by (added v next n) (map (map_edit n.id) runs) ≡ added v next (record n { map = with_all n.map runs })
 edited_by_maps v next n [] below = refl
 edited_by_maps v next n (r ∷ rs) below =
     ap (λ (ns : List Node). edited_by (record v { next_id = next; nodes = ns }) (map (map_edit n.id) rs)) (with_node-last n.id (with_map r) v.nodes n below refl)
     ∙ edited_by_maps v next (with_map r n) rs below
 
-made_edits : (v : VolumeTable) (id : ℕ) (name : List ℕ) (size : ℕ) → AreBelow id v.nodes → edited_by v (edit.Make id name ∷ edit.Size id size ∷ []) ≡ added v (id + 1) (with_size size (made id name))
-made_edits v id name size below = ap (λ (ns : List Node). record v { next_id = id + 1; nodes = ns }) (with_node-last id (with_size size) v.nodes (made id name) below refl)
+made_edits : (v : VolumeTable) (id : ℕ) (kind : NodeKind) (name : List ℕ) (size : ℕ) → AreBelow id v.nodes → edited_by v (edit.Make id kind name ∷ edit.Size id size ∷ []) ≡ added v (id + 1) (with_size size (made id kind name))
+made_edits v id kind name size below = ap (λ (ns : List Node). record v { next_id = id + 1; nodes = ns }) (with_node-last id (with_size size) v.nodes (made id kind name) below refl)
+
+-- a new file of so many bytes, with its blocks at the places of runs
+abbrev pub put_node : ℕ → NodeKind → List ℕ → ℕ → List Run → Node
+put_node id kind name size runs = record { id = id; name = name; kind = kind; size = size; version = 1; map = with_all empty runs }
+
+abbrev pub put_edits : ℕ → NodeKind → List ℕ → ℕ → List Run → List Edit
+put_edits id kind name size runs = edit.Make id kind name ∷ edit.Size id size ∷ map (map_edit id) runs
 
 -- what the edits of a put make
-pub put_edits : (v : VolumeTable) (id : ℕ) (name : List ℕ) (size : ℕ) (runs : List Run) → IsTable v → v.next_id ≤ id
-    → edited_by v (edit.Make id name ∷ edit.Size id size ∷ map (map_edit id) runs)
-    ≡ record v { next_id = id + 1; nodes = v.nodes ++ record { id = id; name = name; size = size; version = 1; runs = with_runs [] runs } ∷ [] }
-put_edits v id name size runs t le =
+pub edited_by-put : (v : VolumeTable) (id : ℕ) (kind : NodeKind) (name : List ℕ) (size : ℕ) (runs : List Run) → IsTable v → v.next_id ≤ id
+    → edited_by v (put_edits id kind name size runs) ≡ record v { next_id = id + 1; nodes = v.nodes ++ put_node id kind name size runs ∷ [] }
+edited_by-put v id kind name size runs t le =
     let below = ids_below v id t le in
-    ap (λ (w : VolumeTable). edited_by w (map (map_edit id) runs)) (made_edits v id name size below)
-    ∙ edited_by_maps v (id + 1) (with_size size (made id name)) runs below
+    ap (λ (w : VolumeTable). edited_by w (map (map_edit id) runs)) (made_edits v id kind name size below)
+    ∙ edited_by_maps v (id + 1) (with_size size (made id kind name)) runs below
 
 if_there : (P : Node → Type 0) (o : Option Node) (n : Node) → o ≡ Some n → P n → IfThere o P
 if_there P o n e h = subst (λ (p : Option Node). IfThere p P) (sym e) h
 
 -- a new file may be made, and given its size, before its blocks are known
-pub put_made_may : (v : VolumeTable) (id : ℕ) (name : List ℕ) (size : ℕ) → IsTable v → MayMake v id name → size ≤ greatest_size → MayEditBy v (edit.Make id name ∷ edit.Size id size ∷ [])
-put_made_may v id name size t make limit =
-    (make, (if_there (λ n. MaySize n size) _ (made id name) (find-last id v.nodes (made id name) (ids_below v id t make.fresh) refl) (record { limit = limit; mapped = omega arith }), tt))
+pub put_made_may : (v : VolumeTable) (id : ℕ) (kind : NodeKind) (name : List ℕ) (size : ℕ) → IsTable v → MayMake v id kind name → size ≤ greatest_size → MayEditBy v (edit.Make id kind name ∷ edit.Size id size ∷ [])
+put_made_may v id kind name size t make limit =
+    (make, (if_there (λ n. MaySize n size) _ (made id kind name) (find-last id v.nodes (made id kind name) (ids_below v id t make.fresh) refl) (record { limit = limit; mapped = λ block le. get-empty nat_cmp block }), tt))
 
-maps_may : (v : VolumeTable) (next : ℕ) (n : Node) (first : ℕ) (runs : List Run) → AreBelow n.id v.nodes → end_of n.runs ≤ first → IsChain first (blocks_of n.size) runs
-    → AllByRecursion (λ r. (first_place v.layout ≤ r.place) × (place_end r ≤ v.layout.total)) runs → MayEditBy (added v next n) (map (map_edit n.id) runs)
-maps_may v next n first [] below ends chain placed = tt
-maps_may v next n first (r ∷ rs) below ends chain placed =
-    let rises = chain_rises (block_end r) (blocks_of n.size) rs chain.2 in
-    let begins = chain.0 in
-    let grown = end_of-with_run n.runs r in (
-      if_there (λ m. MayMap v.layout m r) _ n (find-last n.id v.nodes n below refl)
-          (record { append = record { some = chain.1; behind = omega arith }; placed = record { block = rises; low = placed.0.0; high = placed.0.1 } }),
-      subst (λ (ns : List Node). MayEditBy (record v { next_id = next; nodes = ns }) (map (map_edit n.id) rs)) (sym (with_node-last n.id (with_map r) v.nodes n below refl))
-          (maps_may v next (with_map r n) (block_end r) rs below (omega arith) chain.2 placed.1),
-    )
+-- runs inside so many blocks, at places of data blocks
+pub record IsRunIn (l : Layout) (blocks : ℕ) (r : Run) : Type 0 where
+  pub some : 1 ≤ r.count
+  pub inside : block_end r ≤ blocks
+  pub low : first_place l ≤ r.place
+  pub high : place_end r ≤ l.total
 
--- the edits of a put may be made, where the runs map each of the file's blocks
-pub put_may : (v : VolumeTable) (id : ℕ) (name : List ℕ) (size : ℕ) (runs : List Run) → IsTable v → MayMake v id name → size ≤ greatest_size → IsChain 0 (blocks_of size) runs
-    → AllByRecursion (λ r. (first_place v.layout ≤ r.place) × (place_end r ≤ v.layout.total)) runs → MayEditBy v (edit.Make id name ∷ edit.Size id size ∷ map (map_edit id) runs)
-put_may v id name size runs t make limit chain placed =
+maps_may : (v : VolumeTable) (next : ℕ) (n : Node) (runs : List Run) → AreBelow n.id v.nodes → AllByRecursion (IsRunIn v.layout (blocks_of n.size)) runs → MayEditBy (added v next n) (map (map_edit n.id) runs)
+maps_may v next n [] below placed = tt
+maps_may v next n (r ∷ rs) below placed = (
+  if_there (λ m. MayMap v.layout m r) _ n (find-last n.id v.nodes n below refl)
+      (record { some = placed.0.some; inside = placed.0.inside; low = placed.0.low; high = placed.0.high }),
+  subst (λ (ns : List Node). MayEditBy (record v { next_id = next; nodes = ns }) (map (map_edit n.id) rs)) (sym (with_node-last n.id (with_map r) v.nodes n below refl))
+      (maps_may v next (with_map r n) rs below placed.1),
+)
+
+-- the edits of a put may be made
+pub put_may : (v : VolumeTable) (id : ℕ) (kind : NodeKind) (name : List ℕ) (size : ℕ) (runs : List Run) → IsTable v → MayMake v id kind name → size ≤ greatest_size
+    → AllByRecursion (IsRunIn v.layout (blocks_of size)) runs → MayEditBy v (put_edits id kind name size runs)
+put_may v id kind name size runs t make limit placed =
     let below = ids_below v id t make.fresh in
-    may_join v (edit.Make id name ∷ edit.Size id size ∷ []) (map (map_edit id) runs) (
-      put_made_may v id name size t make limit,
-      subst (λ (w : VolumeTable). MayEditBy w (map (map_edit id) runs)) (sym (made_edits v id name size below))
-          (maps_may v (id + 1) (with_size size (made id name)) 0 runs below (omega arith) chain placed),
+    MayEditBy-append v (edit.Make id kind name ∷ edit.Size id size ∷ []) (map (map_edit id) runs) (
+      put_made_may v id kind name size t make limit,
+      subst (λ (w : VolumeTable). MayEditBy w (map (map_edit id) runs)) (sym (made_edits v id kind name size below))
+          (maps_may v (id + 1) (with_size size (made id kind name)) runs below placed),
     )
 
-or_swap : (a b c : Bool) → ((a || b) || c) ≡ ((a || c) || b)
-or_swap a b c = or_assoc a b c ∙ ap (λ (x : Bool). a || x) (or_comm b c) ∙ sym (or_assoc a c b)
+-- ---- a chain of runs
 
-places_joined : (r x : Run) (place : ℕ) → can_join r x ≡ true
-    → has_place place (record { first = r.first; count = r.count + x.count; place = r.place }) ≡ (has_place place r || has_place place x)
-places_joined r x place h = grind (arith, nat_tests)
+-- a chain ends where it begins or behind
+pub chain_rises : (first end : ℕ) (runs : List Run) → IsChain first end runs → first ≤ end
+chain_rises first end [] h = omega arith
+chain_rises first end (r ∷ rs) h = let e = chain_rises (block_end r) end rs h.2 in let f = h.0 in omega arith
 
--- a place is among the runs with one more where it is among them or in that one
-pub places-with_run : (runs : List Run) (x : Run) (place : ℕ) → list_any (has_place place) (with_run runs x) ≡ (list_any (has_place place) runs || has_place place x)
-places-with_run [] x place = or-false (has_place place x)
-places-with_run (r ∷ []) x place =
-    elim (can_join r x) as (λ b. can_join r x ≡ b → list_any (has_place place) (cond b (record { first = r.first; count = r.count + x.count; place = r.place } ∷ []) (r ∷ x ∷ [])) ≡ ((has_place place r || false) || has_place place x)) [
-      | true ↦ λ h. or-false _ ∙ places_joined r x place h ∙ ap (λ (b : Bool). b || has_place place x) (sym (or-false (has_place place r)))
-      | false ↦ λ h. ap (λ (b : Bool). has_place place r || b) (or-false (has_place place x)) ∙ ap (λ (b : Bool). b || has_place place x) (sym (or-false (has_place place r)))
-    ] refl
-places-with_run (r ∷ s ∷ rs) x place = ap (λ (b : Bool). has_place place r || b) (places-with_run (s ∷ rs) x place) ∙ sym (or_assoc (has_place place r) (list_any (has_place place) (s ∷ rs)) (has_place place x))
+-- no block before it is mapped by it
+chain_low : (first end : ℕ) (runs : List Run) (block : ℕ) → IsChain first end runs → block < first → place_of runs block ≡ None
+chain_low first end [] block h lt = refl
+chain_low first end (r ∷ rs) block h lt =
+    let away : has_block block r ≡ false = grind (arith, nat_tests, h.0, lt) in
+    ap (λ (b : Bool). cond b (Some (r.place + (block - r.first))) (place_of rs block)) away
+    ∙ chain_low (block_end r) end rs block h.2 (omega (arith, h.0, lt))
 
-used_made : (nodes : List Node) (id : ℕ) (name : List ℕ) (place : ℕ) → is_used (nodes ++ made id name ∷ []) place ≡ is_used nodes place
-used_made nodes id name place = list_any-append (λ n. list_any (has_place place) n.runs) nodes (made id name ∷ []) ∙ or-false (is_used nodes place)
+-- each block lies where the chain puts it
+pub get-with_all : (m : FinMap nat_cmp ℕ) (first end : ℕ) (runs : List Run) (block : ℕ) → IsChain first end runs → get (with_all m runs) block ≡ option_or (place_of runs block) (get m block)
+get-with_all m first end [] block h = refl
+get-with_all m first end (r ∷ rs) block h =
+    get-with_all (with_blocks m r) (block_end r) end rs block h.2
+    ∙ ap (option_or (place_of rs block)) (get-with_blocks m r block)
+    ∙ by (has_block block r) refl
+  where
+    by : (b : Bool) → has_block block r ≡ b
+        → option_or (place_of rs block) (cond b (Some (r.place + (block - r.first))) (get m block)) ≡ option_or (cond b (Some (r.place + (block - r.first))) (place_of rs block)) (get m block)
+    by true here =
+        let low : block < block_end r = grind (arith, nat_tests, here) in
+        ap (λ (o : Option ℕ). option_or o (Some (r.place + (block - r.first)))) (chain_low (block_end r) end rs block h.2 low)
+    by false here = refl
 
-used_sized : (nodes : List Node) (id size place : ℕ) → is_used (with_node id (with_size size) nodes) place ≡ is_used nodes place
-used_sized [] id size place = refl
-used_sized (n ∷ ns) id size place =
-    elim (n.id == id) as (λ b. is_used (cond b (with_size size n ∷ ns) (n ∷ with_node id (with_size size) ns)) place ≡ is_used (n ∷ ns) place) [
-      | true ↦ refl
-      | false ↦ ap (λ (b : Bool). list_any (has_place place) n.runs || b) (used_sized ns id size place)
-    ]
+abbrev mapped : List ℕ → List Run → ℕ → List ℕ
+mapped live runs block = mapped_block live (place_of runs block)
 
-used_mapped : (nodes : List Node) (id : ℕ) (r : Run) (place : ℕ) (P : Node → Type 0) → IfThere (find (λ n. n.id == id) nodes) P → is_used (with_node id (with_map r) nodes) place ≡ (is_used nodes place || has_place place r)
-used_mapped [] id r place P there = absurd there
-used_mapped (n ∷ ns) id r place P there =
-    elim (n.id == id) as (λ b. IfThere (cond b (Some n) (find (λ m. m.id == id) ns)) P → is_used (cond b (with_map r n ∷ ns) (n ∷ with_node id (with_map r) ns)) place ≡ (is_used (n ∷ ns) place || has_place place r)) [
-      | true ↦ λ h. ap (λ (b : Bool). b || is_used ns place) (places-with_run n.runs r place) ∙ or_swap (list_any (has_place place) n.runs) (has_place place r) (is_used ns place)
-      | false ↦ λ h. ap (λ (b : Bool). list_any (has_place place) n.runs || b) (used_mapped ns id r place P h) ∙ sym (or_assoc (list_any (has_place place) n.runs) (is_used ns place) (has_place place r))
-    ] there
+in_first : (r : Run) (rs : List Run) (i : ℕ) → i < r.count → place_of (r ∷ rs) (r.first + i) ≡ Some (r.place + i)
+in_first r rs i lt = grind (arith, nat_tests)
 
--- a new file maps no place
-pub is_used-make : (v : VolumeTable) (id : ℕ) (name : List ℕ) (place : ℕ) → is_used (edited v (edit.Make id name)).nodes place ≡ is_used v.nodes place
-is_used-make v id name place = used_made v.nodes id name place
+behind_first : (r : Run) (rs : List Run) (block : ℕ) → block_end r ≤ block → place_of (r ∷ rs) block ≡ place_of rs block
+behind_first r rs block le = grind (arith, nat_tests)
 
--- a size maps no place
-pub is_used-size : (v : VolumeTable) (id size place : ℕ) → is_used (edited v (edit.Size id size)).nodes place ≡ is_used v.nodes place
-is_used-size v id size place = used_sized v.nodes id size place
+-- the blocks of a chain, one behind the other, are the runs' bytes
+pub chain_bytes : (live : List ℕ) (first end : ℕ) (runs : List Run) → IsChain first end runs → flat_map (λ block. mapped_block live (place_of runs block)) (range_with_len first (end - first)) ≡ flat_map (run_bytes live) runs
+chain_bytes live first end [] h = let e : end - first ≡ 0 = omega arith in ap (λ (n : ℕ). flat_map (mapped live []) (range_with_len first n)) e
+chain_bytes live first end (r ∷ rs) h =
+    let rises = chain_rises (block_end r) end rs h.2 in
+    let begins = h.0 in
+    let len : end - first ≡ r.count + (end - block_end r) = omega arith in
+    ap₂ (λ (a n : ℕ). flat_map (mapped live (r ∷ rs)) (range_with_len a n)) (sym begins) len
+    ∙ ap (flat_map (mapped live (r ∷ rs))) (range_join r.first r.count (end - block_end r))
+    ∙ flat_map-append (mapped live (r ∷ rs)) (range_with_len r.first r.count) (range_with_len (block_end r) (end - block_end r))
+    ∙ ap₂ (λ (x y : List ℕ). x ++ y)
+    (blocks_joined live (mapped live (r ∷ rs)) r.first r.place r.count (λ i lt. ap (mapped_block live) (in_first r rs i lt)))
+    (same_over (mapped live (r ∷ rs)) (mapped live rs) (block_end r) (end - block_end r) (λ i low high. ap (mapped_block live) (behind_first r rs i low))
+    ∙ chain_bytes live (block_end r) end rs h.2)
 
--- a run that is mapped has its places mapped, and no other
-pub is_used-map : (v : VolumeTable) (id first count at place : ℕ) → MayEdit v (edit.Map id first count at)
-    → is_used (edited v (edit.Map id first count at)).nodes place ≡ (is_used v.nodes place || has_place place (record { first = first; count = count; place = at }))
-is_used-map v id first count at place may = used_mapped v.nodes id (record { first = first; count = count; place = at }) place _ may
+no_other : (o : Option ℕ) → option_or o None ≡ o
+no_other None = refl
+no_other (Some x) = refl
 
--- an edit keeps the layout
-pub edited-layout : (v : VolumeTable) (e : Edit) → (edited v e).layout ≡ v.layout
-edited-layout v (edit.Make id name) = refl
-edited-layout v (edit.Size id size) = refl
-edited-layout v (edit.Map id first count place) = refl
+-- where the runs of a put file put a block
+get-put : (runs : List Run) (first end block : ℕ) → IsChain first end runs → get (with_all empty runs) block ≡ place_of runs block
+get-put runs first end block chain =
+    get-with_all empty first end runs block chain ∙ ap (option_or (place_of runs block)) (get-empty nat_cmp block) ∙ no_other (place_of runs block)
 
--- a data block is mapped where its place is
-pub get-used_places : (v : VolumeTable) (i : ℕ) → i < data_blocks v.layout → get_or (used_places v) i false ≡ is_used v.nodes (first_place v.layout + i)
-get-used_places v i lt = get_or-map-range_with_len (is_used v.nodes) (first_place v.layout) (data_blocks v.layout) i (first_place v.layout + i) false lt refl
-
--- there is one answer for each data block
-pub length-used_places : (v : VolumeTable) → length (used_places v) ≡ data_blocks v.layout
-length-used_places v = length-map-range_with_len (is_used v.nodes) (first_place v.layout) (data_blocks v.layout)
-
--- a chain added behind runs makes runs
-pub AreRuns-with_runs : (runs more : List Run) (first end : ℕ) → AreRuns runs → end_of runs ≤ first → IsChain first end more → AreRuns (with_runs runs more)
-AreRuns-with_runs runs [] first end h le chain = h
-AreRuns-with_runs runs (x ∷ xs) first end h le chain =
-    let begins = chain.0 in
-    let ends = end_of-with_run runs x in
-    AreRuns-with_runs (with_run runs x) xs (block_end x) end
-    (AreRuns-with_run runs x h (record { some = chain.1; behind = omega arith })) (omega arith) chain.2
-
--- a place is among the runs with others behind where it is among these or those
-pub places-with_runs : (runs more : List Run) (place : ℕ) → list_any (has_place place) (with_runs runs more) ≡ (list_any (has_place place) runs || list_any (has_place place) more)
-places-with_runs runs [] place = sym (or-false (list_any (has_place place) runs))
-places-with_runs runs (x ∷ xs) place =
-    places-with_runs (with_run runs x) xs place
-    ∙ ap (λ (b : Bool). b || list_any (has_place place) xs) (places-with_run runs x place)
-    ∙ or_assoc (list_any (has_place place) runs) (has_place place x) (list_any (has_place place) xs)
+-- a file whose blocks were put there has these bytes
+pub content-put : (id : ℕ) (kind : NodeKind) (name : List ℕ) (size : ℕ) (runs : List Run) (live bytes : List ℕ) → IsChain 0 (blocks_of size) runs → flat_map (run_bytes live) runs ≡ bytes
+    → own_content live (put_node id kind name size runs) ≡ take size bytes
+content-put id kind name size runs live bytes chain e =
+    let from : blocks_of size - 0 ≡ blocks_of size = omega arith in
+    ap (take size)
+    (same_over (λ block. mapped_block live (get (with_all empty runs) block)) (mapped live runs) 0 (blocks_of size) (λ i low high. ap (mapped_block live) (get-put runs 0 (blocks_of size) i chain))
+    ∙ ap (λ (n : ℕ). flat_map (mapped live runs) (range_with_len 0 n)) (sym from)
+    ∙ chain_bytes live 0 (blocks_of size) runs chain
+    ∙ e)
 
 -- the file that a put makes, with its bytes
-pub files_of-put : (v : VolumeTable) (id : ℕ) (name : List ℕ) (size : ℕ) (runs : List Run) (live bytes : List ℕ) → IsTable v → MayMake v id name → IsChain 0 (blocks_of size) runs
+pub files_of-put : (v : VolumeTable) (id : ℕ) (kind : NodeKind) (name : List ℕ) (size : ℕ) (runs : List Run) (live bytes : List ℕ) → IsTable v → MayMake v id kind name → IsChain 0 (blocks_of size) runs
     → flat_map (run_bytes live) runs ≡ bytes
-    → files_of (edited_by v (edit.Make id name ∷ edit.Size id size ∷ map (map_edit id) runs)) live ≡ insert (files_of v live) name (take size bytes)
-files_of-put v id name size runs live bytes t make chain e =
-    ap (λ (w : VolumeTable). files_of w live) (put_edits v id name size runs t make.fresh)
-    ∙ files_of-made v (record { id = id; name = name; size = size; version = 1; runs = with_runs [] runs }) (id + 1) live make.free
-    ∙ ap (insert (files_of v live) name) (content-put id name 1 size runs live bytes chain e)
+    → files_of (edited_by v (put_edits id kind name size runs)) live ≡ insert (files_of v live) name (take size bytes)
+files_of-put v id kind name size runs live bytes t make chain e =
+    ap (λ (w : VolumeTable). files_of w live) (edited_by-put v id kind name size runs t make.fresh)
+    ∙ files_of-made v (put_node id kind name size runs) (id + 1) live make.free
+    ∙ ap (insert (files_of v live) name) (content_of-plain v live (put_node id kind name size runs) ∙ content-put id kind name size runs live bytes chain e)
 
--- edits keep the layout
-pub edited_by-layout : (v : VolumeTable) (es : List Edit) → (edited_by v es).layout ≡ v.layout
-edited_by-layout v [] = refl
-edited_by-layout v (e ∷ es) = edited_by-layout (edited v e) es ∙ edited-layout v e
+-- ---- the places of a put
 
-pub places_between : (l : Layout) (blocks : ℕ) (runs : List Run) (place : ℕ) → AllByRecursion (IsPlaced l blocks) runs → list_any (has_place place) runs ≡ true → (first_place l ≤ place) × (place < l.total)
-places_between l blocks [] place h e = absurd cc
-places_between l blocks (r ∷ rs) place h e =
-    elim (has_place place r) as (λ b. has_place place r ≡ b → (b || list_any (has_place place) rs) ≡ true → (first_place l ≤ place) × (place < l.total)) [
-      | true ↦ λ here k. inside l blocks r place h.0 here
-      | false ↦ λ here k. places_between l blocks rs place h.1 k
-    ] refl e
+both_ways : (a b : Bool) → (a ≡ true → b ≡ true) → (b ≡ true → a ≡ true) → a ≡ b
+both_ways true true f g = refl
+both_ways true false f g = sym (f refl)
+both_ways false true f g = g refl
+both_ways false false f g = refl
+
+-- where a chain puts a block, one of its runs has the place
+placed_in : (runs : List Run) (block place : ℕ) → place_of runs block ≡ Some place → list_any (has_place place) runs ≡ true
+placed_in [] block place e = absurd cc
+placed_in (r ∷ rs) block place e = by (has_block block r) refl e (λ later. placed_in rs block place later)
   where
-    inside : (l : Layout) (blocks : ℕ) (r : Run) (place : ℕ) → IsPlaced l blocks r → has_place place r ≡ true → (first_place l ≤ place) × (place < l.total)
-    inside l blocks r place p here =
-        let low = p.low in
-        let high = p.high in
-        (grind (arith, nat_tests), grind (arith, nat_tests))
+    by : (b : Bool) → has_block block r ≡ b → cond b (Some (r.place + (block - r.first))) (place_of rs block) ≡ Some place
+        → (place_of rs block ≡ Some place → list_any (has_place place) rs ≡ true) → (has_place place r || list_any (has_place place) rs) ≡ true
+    by true here is others = let at : r.place + (block - r.first) ≡ place = cc in or_left (has_place place r) _ (grind (arith, nat_tests, here, at))
+    by false here is others = or_right (has_place place r) _ (others is)
 
-used_between : (l : Layout) (next : ℕ) (front nodes : List Node) (place : ℕ) → AreNodes l next front nodes → is_used nodes place ≡ true → (first_place l ≤ place) × (place < l.total)
-used_between l next front [] place h e = absurd cc
-used_between l next front (n ∷ ns) place h e =
-    elim (list_any (has_place place) n.runs) as (λ b. list_any (has_place place) n.runs ≡ b → (b || is_used ns place) ≡ true → (first_place l ≤ place) × (place < l.total)) [
-      | true ↦ λ here k. places_between l (blocks_of n.size) n.runs place h.3.placed here
-      | false ↦ λ here k. used_between l next (front ++ n ∷ []) ns place h.4 k
-    ] refl e
+record PutAt (runs : List Run) (low place : ℕ) : Type 0 where
+  pub block : ℕ
+  pub later : low ≤ block
+  pub lies : place_of runs block ≡ Some place
 
--- a mapped place is one of a data block
-pub is_used-between : (v : VolumeTable) (place : ℕ) → IsTable v → is_used v.nodes place ≡ true → (first_place v.layout ≤ place) × (place < v.layout.total)
-is_used-between v place t e = used_between v.layout v.next_id [] v.nodes place t.nodes e
+in_chain : (first end : ℕ) (runs : List Run) (place : ℕ) → IsChain first end runs → list_any (has_place place) runs ≡ true → PutAt runs first place
+in_chain first end [] place chain e = absurd cc
+in_chain first end (r ∷ rs) place chain e = by (has_place place r) refl e (λ later. in_chain (block_end r) end rs place chain.2 later)
+  where
+    by : (b : Bool) → has_place place r ≡ b → (b || list_any (has_place place) rs) ≡ true → (list_any (has_place place) rs ≡ true → PutAt rs (block_end r) place) → PutAt (r ∷ rs) first place
+    by true here is others =
+        let low : r.place ≤ place = grind (arith, nat_tests, here) in
+        let high : place < place_end r = grind (arith, nat_tests, here) in
+        let at : r.place + (place - r.place) ≡ place = omega (arith, low) in
+        record { block = r.first + (place - r.place); later = omega (arith, chain.0); lies = in_first r rs (place - r.place) (omega (arith, low, high)) ∙ ap (λ (p : ℕ). Some p) at }
+    by false here is others =
+        let one = others is in
+        record { block = one.block; later = omega (arith, chain.0, one.later); lies = behind_first r rs one.block one.later ∙ one.lies }
 
-pub same_map_over : (f g : ℕ → Bool) (xs : List ℕ) → ((x : ℕ) → f x ≡ g x) → map f xs ≡ map g xs
-same_map_over f g [] h = refl
-same_map_over f g (x ∷ xs) h = ap₂ (λ (b : Bool) (bs : List Bool). b ∷ bs) (h x) (same_map_over f g xs h)
+-- the file maps the places of the runs
+maps-put : (id : ℕ) (kind : NodeKind) (name : List ℕ) (size : ℕ) (runs : List Run) (place : ℕ) → IsChain 0 (blocks_of size) runs → maps_place place (put_node id kind name size runs) ≡ list_any (has_place place) runs
+maps-put id kind name size runs place chain = both_ways (maps_place place (put_node id kind name size runs)) (list_any (has_place place) runs)
+    (λ maps. let there = found-at (with_all empty runs) place maps in placed_in runs there.0 place (sym (get-put runs 0 (blocks_of size) there.0 chain) ∙ there.1))
+    (λ has. let there = in_chain 0 (blocks_of size) runs place chain has in value-found (with_all empty runs) there.block place (get-put runs 0 (blocks_of size) there.block chain ∙ there.lies))
 
-count_cons : (b : Bool) (bs : List Bool) → count_by (λ x. x) (b ∷ bs) ≡ cond b 1 0 + count_by (λ x. x) bs
-count_cons b bs = sum_by-append (λ (x : Bool). cond x 1 0) (b ∷ []) bs ∙ (let e : 0 + cond b 1 0 + count_by (λ (x : Bool). x) bs ≡ cond b 1 0 + count_by (λ (x : Bool). x) bs = omega arith in e)
-
--- how many of n numbers from a on pass
-abbrev passing : (ℕ → Bool) → ℕ → ℕ → ℕ
-passing test a n = count_by (λ x. x) (map test (range_with_len a n))
-
-both_count : (p q : Bool) → (p ≡ true → q ≡ true → ⊥) → cond (p || q) 1 0 ≡ cond p 1 0 + cond q 1 0
-both_count true true h = absurd (h refl refl)
-both_count true false h = omega arith
-both_count false true h = omega arith
-both_count false false h = omega arith
-
-passing_either : (f g : ℕ → Bool) (a n : ℕ) → ((i : ℕ) → f i ≡ true → g i ≡ true → ⊥) → passing (λ i. f i || g i) a n ≡ passing f a n + passing g a n
-passing_either f g a zero h = omega arith
-passing_either f g a (suc n) h =
-    omega (
-      arith,
-      count_cons (f a || g a) (map (λ i. f i || g i) (range_with_len (a + 1) n)),
-      count_cons (f a) (map f (range_with_len (a + 1) n)),
-      count_cons (g a) (map g (range_with_len (a + 1) n)),
-      both_count (f a) (g a) (h a),
-      passing_either f g (a + 1) n h,
-    )
-
-one_place : (r : Run) (a : ℕ) → cond (has_place a r) 1 0 ≡ min (a + 1) (place_end r) - max a r.place
-one_place r a = grind (arith, nat_tests)
-
-two_parts : (a n low high : ℕ) → (min (a + 1) high - max a low) + (min (a + 1 + n) high - max (a + 1) low) ≡ min (a + suc n) high - max a low
-two_parts a n low high = omega arith
-
-passing_places : (r : Run) (a n : ℕ) → passing (λ i. has_place i r) a n ≡ min (a + n) (place_end r) - max a r.place
-passing_places r a zero = omega arith
-passing_places r a (suc n) =
-    count_cons (has_place a r) (map (λ i. has_place i r) (range_with_len (a + 1) n))
-    ∙ ap₂ (λ (x y : ℕ). x + y) (one_place r a) (passing_places r (a + 1) n)
-    ∙ two_parts a n r.place (place_end r)
-
-not_both : (v : VolumeTable) (r : Run) → ((q : ℕ) → r.place ≤ q → q < place_end r → is_used v.nodes q ≡ false) → (q : ℕ) → is_used v.nodes q ≡ true → has_place q r ≡ true → ⊥
-not_both v r free q used here =
-    let low : r.place ≤ q = grind (arith, nat_tests) in
-    let high : q < place_end r = grind (arith, nat_tests) in
-    let none = free q low high in
-    cc
+-- a put maps the places of its runs, and no other
+pub is_used-put : (v : VolumeTable) (id : ℕ) (kind : NodeKind) (name : List ℕ) (size : ℕ) (runs : List Run) (place : ℕ) → IsTable v → v.next_id ≤ id → IsChain 0 (blocks_of size) runs
+    → is_used (edited_by v (put_edits id kind name size runs)) place ≡ (is_used v place || list_any (has_place place) runs)
+is_used-put v id kind name size runs place t le chain =
+    ap (λ (w : VolumeTable). is_used w place) (edited_by-put v id kind name size runs t le)
+    ∙ list_any-append (maps_place place) v.nodes (put_node id kind name size runs ∷ [])
+    ∙ ap (λ (b : Bool). is_used v place || b) (or-false (maps_place place (put_node id kind name size runs)) ∙ maps-put id kind name size runs place chain)

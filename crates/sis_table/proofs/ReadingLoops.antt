@@ -3,7 +3,7 @@ use Rattle.std.proofs.Common.{◌≡◌, ℕ, zero, suc, ◌-◌, ◌+◌, ◌�
 use Rattle.std.proofs.lemmas.List.{append-nil}
 use Rattle.byteorder.specs.Endian.{little_number}
 use Rattle.sis_disk.specs.declared.layout.Layout.{Layout}
-use Rattle.sis_table.specs.declared.runs.Run.{Run}
+use Rattle.sis_ranges.specs.declared.run.Run.{Run}
 use Rattle.sis_table.specs.declared.node.Node.{Node}
 use Rattle.sis_table.specs.declared.fault.TableFault.{TableFault}
 use Rattle.sis_table.specs.declared.fault.TableFault.TheVariants as faults

@@ -1,6 +1,7 @@
 -- Names that are read are names, and each name is read again.
-use Rattle.std.proofs.Common.{◌≡◌, ℕ, zero, suc, ◌+◌, ◌*◌, ◌<◌, ◌≤◌, Bool, true, false, not, cond, ltb, eqb, ◌||◌, List, [], ◌∷◌, ◌++◌, length, drop, Option, Some, None, is_some, Ok, refl, sym, ap, subst, ◌∙◌, arith}
+use Rattle.std.proofs.Common.{◌≡◌, ℕ, zero, suc, ◌+◌, ◌*◌, ◌^◌, ◌<◌, ◌≤◌, Bool, true, false, not, cond, ltb, eqb, ◌||◌, List, [], ◌∷◌, ◌++◌, length, drop, Option, Some, None, is_some, Ok, refl, sym, ap, subst, ◌∙◌, arith}
 use Rattle.std.specs.List.{flat_map, AllByRecursion, list_any, position, position_or_len}
+use Rattle.std.specs.Option.{ok_or}
 use Rattle.std.proofs.lemmas.Bool.{or_parts, or_from, le-ltb, ltb-false}
 use Rattle.std.proofs.lemmas.Bool.Decides.{nat_tests}
 use Rattle.std.proofs.lemmas.List.{take-append-drop, drop-drop, drop_at, length-append, length-drop}
@@ -9,13 +10,17 @@ use Rattle.byteorder.specs.Numbers.{little_number-reads_back}
 use Rattle.sis_disk.specs.declared.layout.TableKind.TheVariants as kinds
 use Rattle.sis_name.specs.declared.NameFault.{NameFault}
 use Rattle.sis_name.specs.Name.{IsName, name_fault, unit_fault}
-use Rattle.sis_name.specs.Units.{is_barred, is_store_name}
+use Rattle.sis_name.specs.Units.{is_barred}
 use Rattle.sis_table.specs.declared.node.Node.{Node}
+use Rattle.sis_table.specs.declared.kind.NodeKind.{NodeKind}
+use Rattle.sis_table.specs.declared.kind.NodeKind.TheVariants.{Plain}
+use Rattle.sis_table.specs.Kinds.{is_fit, kind_byte, kind_of}
 use Rattle.sis_table.specs.Volume.{has_name}
 use Rattle.sis_table.specs.Spelling.{le2, name_text}
-use Rattle.sis_table.specs.Reading.{units_of, units_at, is_bad_name, named_at, here}
+use Rattle.sis_table.specs.Reading.{units_of, units_at, is_bad_name, kind_at, named_at, here}
 use Rattle.sis_table.proofs.Lengths.{length_units}
-use Rattle.sis_table.proofs.ReadingSteps.{none_above, IsBytes, IsBytes-drop, Takes, Takes-then, bytes_again, number_step, number_back}
+use Rattle.sis_table.proofs.ReadingSteps.{IsBytes, IsBytes-drop, Takes, Takes-then, bytes_again, number_step, number_back, one_byte}
+use Rattle.sis_reading.specs.Steps.{◌>>=◌}
 use Rattle.sis_reading.proofs.StepLemmas.{bind_ok, ok_is, guard_ok, bind_again, guard_again}
 
 -- ---- units
@@ -114,38 +119,78 @@ none_from : {A : Type 0} (o : Option A) → is_some o ≡ false → o ≡ None
 none_from None h = refl
 none_from (Some x) h = cc
 
-pub record MayBeNamed (front : List Node) (name : List ℕ) : Type 0 where
+pub record MayBeNamed (front : List Node) (kind : NodeKind) (name : List ℕ) : Type 0 where
   pub is_name : IsName name
-  pub user : is_store_name name ≡ false
+  pub fit : is_fit kind name ≡ true
   pub unique : list_any (has_name name) front ≡ false
 
-may_be : (front : List Node) (name : List ℕ) → is_bad_name front name ≡ false → MayBeNamed front name
-may_be front name h =
-    let a = or_parts (is_some (name_fault name) || is_store_name name) (list_any (has_name name) front) h in
-    let b = or_parts (is_some (name_fault name)) (is_store_name name) a.0 in
-    record { is_name = none_from (name_fault name) b.0; user = b.1; unique = a.1 }
+is_so : (b : Bool) → not b ≡ false → b ≡ true
+is_so true h = refl
+is_so false h = cc
 
-not_bad : (front : List Node) (name : List ℕ) → MayBeNamed front name → is_bad_name front name ≡ false
-not_bad front name h = or_from _ _ (or_from _ _ (ap is_some h.is_name) h.user) h.unique
+may_be : (front : List Node) (kind : NodeKind) (name : List ℕ) → is_bad_name front kind name ≡ false → MayBeNamed front kind name
+may_be front kind name h =
+    let a = or_parts (is_some (name_fault name) || not (is_fit kind name)) (list_any (has_name name) front) h in
+    let b = or_parts (is_some (name_fault name)) (not (is_fit kind name)) a.0 in
+    record { is_name = none_from (name_fault name) b.0; fit = is_so (is_fit kind name) b.1; unique = a.1 }
 
-pub named_takes : (total : ℕ) (front : List Node) (bytes : List ℕ) (y : List ℕ × List ℕ) → IsBytes bytes → named_at total front bytes ≡ Ok y
-    → (kind : List ℕ) × Takes bytes (name_text y.0) kind × Takes kind (0 ∷ []) y.1 × MayBeNamed front y.0
+not_bad : (front : List Node) (kind : NodeKind) (name : List ℕ) → MayBeNamed front kind name → is_bad_name front kind name ≡ false
+not_bad front kind name h = or_from _ _ (or_from _ _ (ap is_some h.is_name) (ap not h.fit)) h.unique
+
+-- the byte of a kind that was read, and a kind that is read again
+byte_of : (n : ℕ) (kind : NodeKind) → kind_of n ≡ Some kind → kind_byte kind ≡ n
+byte_of zero Plain e = refl
+byte_of (suc n) Plain e = cc
+
+of_byte : (kind : NodeKind) → kind_of (kind_byte kind) ≡ Some kind
+of_byte Plain = refl
+
+small_byte : (kind : NodeKind) → kind_byte kind < 256 ^ 1
+small_byte Plain = omega arith
+
+kind_given : {A E : Type 0} (o : Option A) (e : E) (x : A) → ok_or o e ≡ Ok x → o ≡ Some x
+kind_given None e x h = cc
+kind_given (Some y) e x h = cc
+
+kind_takes : (total : ℕ) (bytes : List ℕ) (y : NodeKind × List ℕ) → IsBytes bytes → kind_at total bytes ≡ Ok y → Takes bytes (kind_byte y.0 ∷ []) y.1
+unfolding kind_at
+kind_takes total bytes y fits e =
+    let k = number_step 1 total bytes _ y fits e in
+    let b = bind_ok (ok_or (kind_of k.0.0) (here total bytes kinds.Kind)) _ y k.3 in
+    let byte : kind_byte b.0 ≡ k.0.0 = byte_of k.0.0 b.0 (kind_given (kind_of k.0.0) (here total bytes kinds.Kind) b.0 b.1) in
+    subst (λ (x : NodeKind × List ℕ). Takes bytes (kind_byte x.0 ∷ []) x.1) (ok_is (b.0, k.0.1) y b.2)
+    (subst (λ (x : List ℕ). Takes bytes x k.0.1) (one_byte k.0.0 k.2 ∙ ap (λ (x : ℕ). x ∷ []) (sym byte)) k.1)
+
+kind_again : (total : ℕ) (kind : NodeKind) (rest : List ℕ) → kind_at total (kind_byte kind ∷ rest) ≡ Ok (kind, rest)
+unfolding kind_at
+kind_again total kind rest =
+    ap (λ (x : List ℕ). kind_at total (x ++ rest)) (sym (one_byte (kind_byte kind) (small_byte kind)))
+    ∙ number_back 1 total (kind_byte kind) rest _ _ (small_byte kind)
+    (ap (λ (o : Option NodeKind). ok_or o (here total (little_bytes 1 (kind_byte kind) ++ rest) kinds.Kind) >>= λ (k : NodeKind). Ok (k, rest)) (of_byte kind))
+
+-- a name and a kind that were read, and where the name ends
+pub record TakesNamed (front : List Node) (bytes : List ℕ) (y : List ℕ × NodeKind × List ℕ) : Type 0 where
+  pub behind : List ℕ
+  pub name : Takes bytes (name_text y.0) behind
+  pub kind : Takes behind (kind_byte y.1 ∷ []) y.2
+  pub may : MayBeNamed front y.1 y.0
+
+pub named_takes : (total : ℕ) (front : List Node) (bytes : List ℕ) (y : List ℕ × NodeKind × List ℕ) → IsBytes bytes → named_at total front bytes ≡ Ok y → TakesNamed front bytes y
 unfolding named_at
 named_takes total front bytes y fits e =
     let a = bind_ok (units_at total bytes) _ y e in
     let t = units_takes total bytes a.0 fits a.1 in
-    let k = number_step 1 total a.0.1 _ y t.rest_fits a.2 in
-    let gk = guard_ok (here total a.0.1 kinds.Kind) _ _ _ y k.3 in
-    let gn = guard_ok (here total bytes kinds.Name) _ _ _ y gk.1 in
-    let plain : Takes a.0.1 (0 ∷ []) k.0.1 = subst (λ (x : ℕ). Takes a.0.1 (little_bytes 1 x) k.0.1) (none_above k.0.0 gk.0) k.1 in
-    subst (λ (x : List ℕ × List ℕ). (kind : List ℕ) × Takes bytes (name_text x.0) kind × Takes kind (0 ∷ []) x.1 × MayBeNamed front x.0)
-    (ok_is (a.0.0, k.0.1) y gn.1) (a.0.1, t, plain, may_be front a.0.0 gn.0)
+    let k = bind_ok (kind_at total a.0.1) _ y a.2 in
+    let gn = guard_ok (here total bytes kinds.Name) _ _ _ y k.2 in
+    subst (TakesNamed front bytes) (ok_is (a.0.0, k.0.0, k.0.1) y gn.1)
+    (record { behind = a.0.1; name = t; kind = kind_takes total a.0.1 k.0 t.rest_fits k.1; may = may_be front k.0.0 a.0.0 gn.0 })
 
-pub named_again : (total : ℕ) (front : List Node) (name rest : List ℕ) → MayBeNamed front name → named_at total front (name_text name ++ 0 ∷ rest) ≡ Ok (name, rest)
+pub named_again : (total : ℕ) (front : List Node) (kind : NodeKind) (name rest : List ℕ) → MayBeNamed front kind name
+    → named_at total front (name_text name ++ kind_byte kind ∷ rest) ≡ Ok (name, kind, rest)
 unfolding named_at
-named_again total front name rest may =
+named_again total front kind name rest may =
     let units = name_units name may.is_name in
     let few : length name < 65536 = omega (arith, units.1) in
-    bind_again (units_at total (name_text name ++ 0 ∷ rest)) (name, 0 ∷ rest) _ _ (name_again total name (0 ∷ rest) units.0 few)
-    (number_back 1 total 0 rest _ _ (omega arith)
-    (guard_again (here total (name_text name ++ 0 ∷ rest) kinds.Name) _ _ _ _ (not_bad front name may) refl))
+    bind_again (units_at total (name_text name ++ kind_byte kind ∷ rest)) (name, kind_byte kind ∷ rest) _ _ (name_again total name (kind_byte kind ∷ rest) units.0 few)
+    (bind_again (kind_at total (kind_byte kind ∷ rest)) (kind, rest) _ _ (kind_again total kind rest)
+    (guard_again (here total (name_text name ++ kind_byte kind ∷ rest) kinds.Name) _ _ _ _ (not_bad front kind name may) refl))

@@ -1,26 +1,30 @@
 -- Runs that are read are runs, and each file's runs are read again.
-use Rattle.std.proofs.Common.{◌≡◌, ℕ, zero, suc, ◌+◌, ◌-◌, ◌^◌, ◌<◌, ◌≤◌, false, ltb, leb, eqb, ◌||◌, List, [], ◌∷◌, ◌++◌, length, Option, Some, None, Ok, refl, ap, subst, ◌∙◌, append_assoc, arith}
+use Rattle.std.proofs.Common.{◌≡◌, ℕ, zero, suc, ◌+◌, ◌-◌, ◌^◌, ◌<◌, ◌≤◌, false, ltb, leb, eqb, ◌||◌, List, [], ◌∷◌, ◌++◌, length, Option, Some, None, Ok, refl, ap, sym, subst, ◌∙◌, append_assoc, arith}
 use Rattle.std.specs.List.{flat_map, AllByRecursion}
+use Rattle.std.specs.FinMap.{FinMap, get}
+use Rattle.std.specs.Ordering.{nat_cmp}
 use Rattle.std.proofs.lemmas.Bool.{or_parts, or_from, le-ltb}
 use Rattle.std.proofs.lemmas.Bool.Decides.{nat_tests}
 use Rattle.byteorder.specs.Endian.{little_bytes}
 use Rattle.sis_disk.specs.declared.layout.Layout.{Layout}
 use Rattle.sis_disk.specs.declared.layout.TableKind.TheVariants as kinds
-use Rattle.sis_disk.specs.Layout.{first_place}
-use Rattle.sis_table.specs.declared.runs.Run.{Run}
-use Rattle.sis_table.specs.Runs.{AreRuns, IsApart}
+use Rattle.sis_disk.specs.Layout.{IsLayout, first_place}
+use Rattle.sis_ranges.specs.declared.run.Run.{Run}
+use Rattle.sis_ranges.specs.Extents.{AreRuns, IsApart, IsWithin, map_of, runs_of}
+use Rattle.sis_ranges.proofs.CallerLemmas.{AreRuns-runs_of, map_of-runs_of, runs_of-map_of}
 use Rattle.sis_table.specs.Volume.{IsPlaced}
 use Rattle.sis_table.specs.Spelling.{le8, run_text}
-use Rattle.sis_table.specs.Reading.{joins, end_before, number_at, run_at, runs_at, here}
+use Rattle.sis_table.specs.Reading.{joins, end_before, number_at, run_at, runs_at, map_at, here}
+use Rattle.sis_table.proofs.MapLemmas.{IsRunPlaced, AreRunsPlaced, are_within, placed_map, placed_parts}
 use Rattle.sis_table.proofs.ReadingSteps.{IsBytes, Takes, Takes-then, number_step, number_back}
-use Rattle.sis_reading.proofs.StepLemmas.{bind_ok, ok_is, guard_ok, guard_again, bind_then}
+use Rattle.sis_reading.proofs.StepLemmas.{bind_ok, ok_is, guard_ok, guard_again, bind_again, bind_then}
 
 -- a run that may stand behind another
 pub record IsNext (l : Layout) (blocks : ℕ) (before : Option Run) (r : Run) : Type 0 where
   pub behind : end_before before ≤ r.first
   pub some : 1 ≤ r.count
   pub apart : joins before r ≡ false
-  pub placed : IsPlaced l blocks r
+  pub placed : IsRunPlaced l blocks r
 
 abbrev pub AreNext : Layout → ℕ → Option Run → List Run → Type 0
 AreNext l blocks before [] = Unit {0}
@@ -40,7 +44,7 @@ next_from l blocks before r a b c =
       behind = grind (arith, nat_tests, a'.0);
       some = some;
       apart = d'.0;
-      placed = record { block = omega (arith, inside, long); low = grind (arith, nat_tests, d'.1); high = grind (arith, nat_tests, c'.1) };
+      placed = record { inside = omega (arith, inside, long); low = grind (arith, nat_tests, d'.1); high = grind (arith, nat_tests, c'.1) };
     }
 
 pub run_takes : (total : ℕ) (l : Layout) (blocks : ℕ) (before : Option Run) (bytes : List ℕ) (y : Run × List ℕ) → IsBytes bytes → run_at total l blocks before bytes ≡ Ok y → Takes bytes (run_text y.0) y.1 × IsNext l blocks before y.0
@@ -99,7 +103,7 @@ module _ (total : ℕ) (l : Layout) (blocks : ℕ) (blocks_fit : blocks < 256 ^ 
   run_again before r rest next =
       let a = next.behind in
       let b = next.some in
-      let block = next.placed.block in
+      let block = next.placed.inside in
       let low = next.placed.low in
       let high = next.placed.high in
       let not_before : ltb r.first (end_before before) ≡ false = le-ltb _ _ a in
@@ -141,7 +145,7 @@ module _ (l : Layout) (blocks : ℕ) where
   are_runs before [] h = tt
   are_runs before (r ∷ rs) h = (h.0.some, is_apart r rs h.1, are_runs (Some r) rs h.1)
 
-  pub are_placed : (before : Option Run) (rs : List Run) → AreNext l blocks before rs → AllByRecursion (IsPlaced l blocks) rs
+  pub are_placed : (before : Option Run) (rs : List Run) → AreNext l blocks before rs → AreRunsPlaced l blocks rs
   are_placed before [] h = tt
   are_placed before (r ∷ rs) h = (h.0.placed, are_placed (Some r) rs h.1)
 
@@ -149,25 +153,51 @@ module _ (l : Layout) (blocks : ℕ) where
   IsBehind None rs = Unit {0}
   IsBehind (Some r) rs = IsApart r rs
 
-  are_next_from : (before : Option Run) (rs : List Run) → IsBehind before rs → AreRuns rs → AllByRecursion (IsPlaced l blocks) rs → AreNext l blocks before rs
+  are_next_from : (before : Option Run) (rs : List Run) → IsBehind before rs → AreRuns rs → AreRunsPlaced l blocks rs → AreNext l blocks before rs
   are_next_from before [] behind are placed = tt
   are_next_from None (r ∷ rs) behind are placed =
       (record { behind = omega arith; some = are.0; apart = refl; placed = placed.0 }, are_next_from (Some r) rs are.1 are.2 placed.1)
   are_next_from (Some q) (r ∷ rs) behind are placed =
       (record { behind = behind.0; some = are.0; apart = behind.1; placed = placed.0 }, are_next_from (Some r) rs are.1 are.2 placed.1)
 
-  pub are_next : (rs : List Run) → AreRuns rs → AllByRecursion (IsPlaced l blocks) rs → AreNext l blocks None rs
+  pub are_next : (rs : List Run) → AreRuns rs → AreRunsPlaced l blocks rs → AreNext l blocks None rs
   are_next rs are placed = are_next_from None rs tt are placed
 
-  -- a file has no more runs than blocks
-  pub few_runs : (before : Option Run) (rs : List Run) → end_before before ≤ blocks → AreNext l blocks before rs → length rs + end_before before ≤ blocks
-  few_runs before [] le h = omega arith
-  few_runs before (r ∷ rs) le h =
-      let behind = h.0.behind in
-      let some = h.0.some in
-      let others = few_runs (Some r) rs h.0.placed.block h.1 in
-      omega (arith, behind, some, others)
-
--- runs that were read are runs
+-- runs that were read are those of a map that a file of so many blocks can have
 pub runs_at_are : (total : ℕ) (l : Layout) (blocks n : ℕ) (before : Option Run) (bytes : List ℕ) (rs : List Run) (rest : List ℕ) → runs_at total l blocks before n bytes ≡ Ok (rs, rest) → AreRuns rs
 runs_at_are total l blocks n before bytes rs rest e = are_runs l blocks before rs (runs_are_next total l blocks n before bytes (rs, rest) e)
+
+pub runs_at_within : (total : ℕ) (l : Layout) (blocks n : ℕ) (before : Option Run) (bytes : List ℕ) (rs : List Run) (rest : List ℕ) → IsLayout l → blocks ≤ 2 ^ 24
+    → runs_at total l blocks before n bytes ≡ Ok (rs, rest) → AllByRecursion IsWithin rs
+runs_at_within total l blocks n before bytes rs rest layout few e =
+    are_within l blocks rs few (omega (arith, layout.total_high)) (are_placed l blocks before rs (runs_are_next total l blocks n before bytes (rs, rest) e))
+
+-- ---- maps
+
+-- a map that was read, with its spelling
+pub record TakesMap (l : Layout) (blocks n : ℕ) (bytes : List ℕ) (y : FinMap nat_cmp ℕ × List ℕ) : Type 0 where
+  pub text : Takes bytes (flat_map run_text (runs_of y.0)) y.1
+  pub count : length (runs_of y.0) ≡ n
+  pub placed : (block place : ℕ) → get y.0 block ≡ Some place → IsPlaced l blocks block place
+
+pub map_takes : (total : ℕ) (l : Layout) (blocks n : ℕ) (bytes : List ℕ) (y : FinMap nat_cmp ℕ × List ℕ) → IsBytes bytes → map_at total l blocks n bytes ≡ Ok y → TakesMap l blocks n bytes y
+unfolding map_at
+map_takes total l blocks n bytes y fits e =
+    let a = bind_ok (runs_at total l blocks None n bytes) _ y e in
+    let read = runs_take total l blocks n None bytes a.0 fits a.1 in
+    let same = runs_of-map_of a.0.0 (are_runs l blocks None a.0.0 read.2) in
+    subst (TakesMap l blocks n bytes) (ok_is (map_of a.0.0, a.0.1) y a.2) (record {
+      text = subst (λ (rs : List Run). Takes bytes (flat_map run_text rs) a.0.1) (sym same) read.0;
+      count = ap (λ (rs : List Run). length rs) same ∙ read.1;
+      placed = placed_map l blocks a.0.0 (are_placed l blocks None a.0.0 read.2);
+    })
+
+pub map_again : (total : ℕ) (l : Layout) (blocks : ℕ) (m : FinMap nat_cmp ℕ) (rest : List ℕ) → blocks < 256 ^ 8 → l.total < 256 ^ 8
+    → ((block place : ℕ) → get m block ≡ Some place → IsPlaced l blocks block place)
+    → map_at total l blocks (length (runs_of m)) (flat_map run_text (runs_of m) ++ rest) ≡ Ok (m, rest)
+unfolding map_at
+map_again total l blocks m rest blocks_fit total_fits placed =
+    let next = are_next l blocks (runs_of m) (AreRuns-runs_of m) (placed_parts l blocks m placed) in
+    bind_again (runs_at total l blocks None (length (runs_of m)) (flat_map run_text (runs_of m) ++ rest)) (runs_of m, rest) _ _
+    (runs_again total l blocks blocks_fit total_fits (runs_of m) None rest next)
+    (ap (λ (n : FinMap nat_cmp ℕ). Ok (n, rest)) (map_of-runs_of m))

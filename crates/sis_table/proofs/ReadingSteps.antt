@@ -1,5 +1,5 @@
 -- Steps of reading: what a step that didn't fail gave, and what a step on spelled bytes gives.
-use Rattle.std.proofs.Common.{◌≡◌, ℕ, ◌^◌, ◌<◌, ◌≤◌, false, ltb, List, ◌++◌, length, take, drop, Result, Ok, refl, sym, ap, subst, ◌∙◌, append_assoc, arith}
+use Rattle.std.proofs.Common.{◌≡◌, ℕ, ◌^◌, ◌%◌, ◌<◌, ◌≤◌, false, ltb, List, [], ◌∷◌, ◌++◌, length, take, drop, Result, Ok, refl, sym, ap, subst, ◌∙◌, append_assoc, arith}
 use Rattle.std.proofs.lemmas.Bool.{ltb-false, le-ltb}
 use Rattle.std.proofs.lemmas.List.{drop_at, take-append-drop, length-append}
 use Rattle.byteorder.specs.Endian.{little_number, little_bytes}
@@ -26,6 +26,10 @@ Takes-then a x b y c p q = record {
 -- a number that is not above 0
 pub none_above : (n : ℕ) → ltb 0 n ≡ false → n ≡ 0
 none_above n h = let le : n ≤ 0 = ltb-false 0 n h in omega arith
+
+-- a byte is spelled by itself
+pub one_byte : (n : ℕ) → n < 256 ^ 1 → little_bytes 1 n ≡ n ∷ []
+one_byte n lt = let e : n % 256 ≡ n = omega arith in ap (λ (x : ℕ). x ∷ []) e
 
 pub number_takes : (n total : ℕ) (bytes : List ℕ) (x : ℕ × List ℕ) → IsBytes bytes → number_at n total bytes ≡ Ok x → Takes bytes (little_bytes n x.0) x.1 × (x.0 < 256 ^ n)
 unfolding number_at

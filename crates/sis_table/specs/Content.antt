@@ -2,13 +2,14 @@
 use Rattle.std.specs.Prelude.{◌≡◌, ℕ, ◌+◌, ◌*◌, List, take, map, flat_map, replicate, slice_range, Option, None, Some}
 use Rattle.std.specs.List.{range_with_len}
 use Rattle.std.specs.Option.{option_map}
-use Rattle.std.specs.FinMap.{from_entries}
+use Rattle.std.specs.FinMap.{from_entries, get}
 use Rattle.sis_disk.specs.Record.{Seen, live_of}
 use Rattle.sis_name.specs.Files.{Files}
-use Rattle.sis_table.specs.declared.runs.Run.{Run}
+use Rattle.sis_ranges.specs.declared.run.Run.{Run}
 use Rattle.sis_table.specs.declared.node.Node.{Node}
-use Rattle.sis_table.specs.Runs.{place_of}
-use Rattle.sis_table.specs.Volume.{VolumeTable, blocks_of}
+use Rattle.sis_table.specs.declared.kind.NodeKind.{NodeKind}
+use Rattle.sis_table.specs.declared.kind.NodeKind.TheVariants.{Plain}
+use Rattle.sis_table.specs.Volume.{VolumeTable, blocks_of, user_nodes}
 
 -- the block at a place of the image
 abbrev pub block_at : List ℕ → ℕ → List ℕ
@@ -23,15 +24,22 @@ abbrev pub mapped_block : List ℕ → Option ℕ → List ℕ
 mapped_block live None = replicate 4096 0
 mapped_block live (Some place) = block_at live place
 
--- a file's bytes: its blocks in order, cut at its size
-abbrev pub content_of : Node → List ℕ → List ℕ
-content_of n live =
-    take n.size (flat_map (λ block. mapped_block live (place_of n.runs block))
+-- the bytes of a file's own blocks, in order, cut at its size
+abbrev pub own_content : List ℕ → Node → List ℕ
+own_content live n =
+    take n.size (flat_map (λ block. mapped_block live (get n.map block))
     (range_with_len 0 (blocks_of n.size)))
 
--- the files under their names
+-- a file's bytes: a plain file has its own alone
+abbrev pub content_by : NodeKind → VolumeTable → List ℕ → Node → List ℕ
+content_by Plain v live n = own_content live n
+
+abbrev pub content_of : VolumeTable → List ℕ → Node → List ℕ
+content_of v live n = content_by n.kind v live n
+
+-- the users' files under their names
 abbrev pub files_of : VolumeTable → List ℕ → Files
-files_of v live = from_entries (map (λ n. (n.name, content_of n live)) v.nodes)
+files_of v live = from_entries (map (λ n. (n.name, content_of v live n)) (user_nodes v))
 
 -- the table and these bytes of an image stand for these files
 abbrev pub StandsFor : VolumeTable → List ℕ → Files → Type 0

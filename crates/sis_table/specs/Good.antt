@@ -1,54 +1,38 @@
 -- When the files of a table go together, and which of them is the first that doesn't.
-use Rattle.std.specs.Prelude.{◌≡◌, ◌<◌, ℕ, ◌&&◌, ◌||◌, Bool, false, List, [], ◌∷◌, ◌++◌, length, slice_index_or, flat_map, if◌then◌else◌, Option, None, Some}
-use Rattle.std.specs.List.{list_any, AllByRecursion, range_with_len}
+use Rattle.std.specs.Prelude.{◌≡◌, ◌<◌, ℕ, ◌==◌, ◌||◌, Bool, false, List, [], ◌∷◌, ◌++◌, length, slice_index_or, if◌then◌else◌, Option, None, Some}
+use Rattle.std.specs.List.{list_any}
 use Rattle.sis_disk.specs.declared.layout.GoodKind.{GoodKind}
 use Rattle.sis_disk.specs.declared.layout.GoodKind.TheVariants.{PlaceTwice}
-use Rattle.sis_table.specs.Runs.{has_place}
-use Rattle.sis_table.specs.Volume.{VolumeTable}
+use Rattle.sis_table.specs.Volume.{VolumeTable, place_in, places_of}
 use Rattle.sis_table.specs.declared.fault.GoodFault.{GoodFault}
 use Rattle.sis_table.specs.declared.fault.GoodFault.TheVariants as faults
 use Rattle.sis_table.specs.declared.node.Node.{Node}
-use Rattle.sis_table.specs.declared.runs.Run.{Run}
 
--- the two runs have no place in common
-abbrev pub IsClear : Run → Run → Type 0
-IsClear r s = (place : ℕ) → (has_place place r && has_place place s) ≡ false
-
--- no two of the runs have a place in common
-abbrev pub AreClear : List Run → Type 0
-AreClear [] = Unit {0}
-AreClear (r ∷ rs) = AllByRecursion (IsClear r) rs × AreClear rs
-
--- the runs of some files, in order
-abbrev pub all_runs : List Node → List Run
-all_runs nodes = flat_map (λ n. n.runs) nodes
-
--- no place is mapped twice
+-- No place is mapped twice: blocks that lie at one place are one block of one file.
 abbrev pub IsGood : VolumeTable → Type 0
-IsGood v = AreClear (all_runs v.nodes)
+IsGood v =
+    (i j a b place : ℕ) → place_in v i a ≡ Some place → place_in v j b ≡ Some place
+    → (i ≡ j) × (a ≡ b)
 
--- the place is one of these runs'
-abbrev pub is_mapped : List Run → ℕ → Bool
-is_mapped runs place = list_any (has_place place) runs
+-- the place is one of these
+abbrev pub is_among : List ℕ → ℕ → Bool
+is_among places place = list_any (λ p. p == place) places
 
--- a place of the run is one of the earlier runs'
-abbrev pub maps_again : List Run → Run → Bool
-maps_again before r = list_any (is_mapped before) (range_with_len r.place r.count)
-
--- one of the runs, which stand behind some others, has a place of an earlier one
-abbrev pub repeats : List Run → List Run → Bool
+-- one of the places, which stand behind some others, is an earlier one again
+abbrev pub repeats : List ℕ → List ℕ → Bool
 repeats before [] = false
-repeats before (r ∷ rs) = maps_again before r || repeats (before ++ r ∷ []) rs
+repeats before (p ∷ ps) = is_among before p || repeats (before ++ p ∷ []) ps
 
 -- what is wrong, the file's id, and 0
 abbrev pub Defect : Type 0
 Defect = GoodKind × ℕ × ℕ
 
 -- The first file, by rising id, that maps a place of an earlier file, or one of its own again.
-abbrev pub defect_after : List Run → List Node → Option Defect
+abbrev pub defect_after : List ℕ → List Node → Option Defect
 defect_after before [] = None
 defect_after before (n ∷ ns) =
-    if repeats before n.runs then Some (PlaceTwice, n.id, 0) else defect_after (before ++ n.runs) ns
+    if repeats before (places_of n) then Some (PlaceTwice, n.id, 0)
+    else defect_after (before ++ places_of n) ns
 
 abbrev pub first_defect : VolumeTable → Option Defect
 first_defect v = defect_after [] v.nodes
@@ -58,7 +42,7 @@ abbrev pub Names : Option Defect → GoodFault → Type 0
 Names defect faults.Memory = Unit {0}
 Names defect (faults.Bad kind file index) = defect ≡ Some (kind, file, index)
 
--- the marks stand at the places of these runs
-abbrev pub Marks : List Bool → List Run → Type 0
-Marks marks runs =
-    (place : ℕ) → place < length marks → slice_index_or marks place false ≡ is_mapped runs place
+-- the marks stand at these places
+abbrev pub Marks : List Bool → List ℕ → Type 0
+Marks marks places =
+    (place : ℕ) → place < length marks → slice_index_or marks place false ≡ is_among places place

@@ -1,10 +1,10 @@
 -- An index of the names of files, and what files with one keep.
-use Rattle.std.specs.Prelude.{◌≡◌, ℕ, false, List, [], ◌∷◌, ◌++◌, map, find}
-use Rattle.std.specs.List.{list_any}
+use Rattle.std.specs.Prelude.{◌≡◌, ℕ, ◌<◌, ◌≤◌, ◌==◌, List, map, find, Option, None, Some}
+use Rattle.std.specs.List.{AllByRecursion}
 use Rattle.std.specs.List.Sorted.{IsStrictlySortedBy}
 use Rattle.std.specs.Option.{option_map}
 use Rattle.std.specs.Ordering.{nat_cmp}
-use Rattle.std.specs.BTreeMap.{BTreeMap, get}
+use Rattle.std.specs.BTreeMap.{BTreeMap, get, values}
 use Rattle.sis_name.specs.Units.{name_cmp}
 use Rattle.sis_table.specs.declared.node.Node.{Node}
 use Rattle.sis_table.specs.Volume.{has_name, id_of}
@@ -23,8 +23,18 @@ pub record AreIndexed (nodes : List Node) (names : BTreeMap (List ℕ) ℕ) : Ty
   pub rising : AreRising nodes
   pub index : IsIndex names nodes
 
--- no earlier file has the last one's name
-abbrev pub IsLastFree : List Node → Type 0
-IsLastFree nodes =
-    (front : List Node) (n : Node) → nodes ≡ front ++ n ∷ []
-    → list_any (has_name n.name) front ≡ false
+-- a file under its id
+abbrev pub with_id : Node → ℕ × Node
+with_id n = (n.id, n)
+
+-- each file under its id, with an index of the names
+pub record AreKept (nodes : BTreeMap ℕ Node) (names : BTreeMap (List ℕ) ℕ) : Type 0 where
+  pub keyed : nodes.entries ≡ map with_id (values nodes)
+  pub indexed : AreIndexed (values nodes) names
+
+-- the file with the least id that is greater than this one; none, where no id is greater
+abbrev pub IsNextIn : List Node → ℕ → Option Node → Type 0
+IsNextIn nodes after None = AllByRecursion (λ n. n.id ≤ after) nodes
+IsNextIn nodes after (Some next) =
+    (after < next.id) × (find (λ n. n.id == next.id) nodes ≡ Some next)
+    × AllByRecursion (λ n. after < n.id → next.id ≤ n.id) nodes

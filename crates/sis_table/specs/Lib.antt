@@ -1,11 +1,15 @@
+pub mod Changes
 pub mod Content
+pub mod Drafts
 pub mod Edits
 pub mod Good
 pub mod Image
 pub mod Index
+pub mod Inside
+pub mod Kinds
 pub mod Opens
 pub mod Reading
-pub mod Runs
 pub mod Spelling
-pub mod Undo
+pub mod Trees
+pub mod Uses
 pub mod Volume

@@ -1,19 +1,23 @@
 -- Reading a table from left to right, with the first fault that is met. `total` is how many bytes
 -- there are in all, so that a fault's place is counted from the first one.
-use Rattle.std.specs.Prelude.{ℕ, zero, suc, ◌+◌, ◌-◌, ◌*◌, ◌≤◌, Bool, false, ◌||◌, List, [], ◌∷◌, ◌++◌, length, drop, Option, Some, None, is_some, Result, Ok, nat_lt, nat_le, ◌==◌, ⊤}
+use Rattle.std.specs.Prelude.{ℕ, zero, suc, ◌+◌, ◌-◌, ◌*◌, ◌≤◌, Bool, false, not, ◌||◌, List, [], ◌∷◌, ◌++◌, length, drop, Option, Some, None, is_some, Result, Ok, nat_lt, nat_le, ◌==◌, ⊤}
 use Rattle.std.specs.List.{list_any}
+use Rattle.std.specs.Option.{ok_or}
+use Rattle.std.specs.FinMap.{FinMap}
+use Rattle.std.specs.Ordering.{nat_cmp}
 use Rattle.byteorder.specs.Endian.{little_number}
 use Rattle.sis_disk.specs.Layout.{first_place}
 use Rattle.sis_disk.specs.declared.layout.Layout.{Layout}
 use Rattle.sis_disk.specs.declared.layout.TableKind.{TableKind}
 use Rattle.sis_disk.specs.declared.layout.TableKind.TheVariants as kinds
 use Rattle.sis_name.specs.Name.{name_fault}
-use Rattle.sis_name.specs.Units.{is_store_name}
 use Rattle.sis_reading.specs.Steps.{◌>>=◌, guard}
-use Rattle.sis_table.specs.Runs.{can_join, block_end}
+use Rattle.sis_ranges.specs.declared.run.Run.{Run}
+use Rattle.sis_ranges.specs.Extents.{block_end, can_join, map_of}
+use Rattle.sis_table.specs.Kinds.{is_fit, kind_of}
 use Rattle.sis_table.specs.Volume.{VolumeTable, last_id, has_name, blocks_of, greatest_number, greatest_size, most_nodes}
-use Rattle.sis_table.specs.declared.runs.Run.{Run}
 use Rattle.sis_table.specs.declared.node.Node.{Node}
+use Rattle.sis_table.specs.declared.kind.NodeKind.{NodeKind}
 use Rattle.sis_table.specs.declared.fault.TableFault.{TableFault}
 use Rattle.sis_table.specs.declared.fault.TableFault.TheVariants as faults
 
@@ -53,19 +57,25 @@ units_at total bytes = do
   a ← guard (here total bytes kinds.Short) (nat_lt (length count.1) (2 * count.0)) (tt {0})
   Ok (units_of count.0 count.1, drop (2 * count.0) count.1)
 
--- no name, one of the common store's, or one that an earlier file has
-abbrev pub is_bad_name : List Node → List ℕ → Bool
-is_bad_name front units =
-    is_some (name_fault units) || is_store_name units || list_any (has_name units) front
+-- no name, one that isn't fit for the kind, or one that an earlier file has
+abbrev pub is_bad_name : List Node → NodeKind → List ℕ → Bool
+is_bad_name front kind units =
+    is_some (name_fault units) || not (is_fit kind units) || list_any (has_name units) front
+
+-- a kind
+unfoldable pub kind_at : ℕ → List ℕ → Result (NodeKind × List ℕ) Fault
+kind_at total bytes = do
+  byte ← number_at 1 total bytes
+  kind ← ok_or (kind_of byte.0) (here total bytes kinds.Kind)
+  Ok (kind, byte.1)
 
 -- a name and a kind: the name is judged once the kind is read
-unfoldable pub named_at : ℕ → List Node → List ℕ → Result (List ℕ × List ℕ) Fault
+unfoldable pub named_at : ℕ → List Node → List ℕ → Result (List ℕ × NodeKind × List ℕ) Fault
 named_at total front bytes = do
   name ← units_at total bytes
-  kind ← number_at 1 total name.1
-  a ← guard (here total name.1 kinds.Kind) (nat_lt 0 kind.0) (tt {0})
-  b ← guard (here total bytes kinds.Name) (is_bad_name front name.0) (tt {0})
-  Ok (name.0, kind.1)
+  kind ← kind_at total name.1
+  a ← guard (here total bytes kinds.Name) (is_bad_name front kind.0 name.0) (tt {0})
+  Ok (name.0, kind.0, kind.1)
 
 -- the run before this one could be joined with it
 abbrev pub joins : Option Run → Run → Bool
@@ -98,22 +108,35 @@ runs_at total layout blocks before (suc n) bytes = do
   others ← runs_at total layout blocks (Some first.0) n first.1
   Ok (first.0 ∷ others.0, others.1)
 
+-- so many runs, and the map for which they stand
+unfoldable pub map_at : ℕ → Layout → ℕ → ℕ → List ℕ → Result (FinMap nat_cmp ℕ × List ℕ) Fault
+map_at total layout blocks count bytes = do
+  runs ← runs_at total layout blocks None count bytes
+  Ok (map_of runs.0, runs.1)
+
 -- a file behind those of `front`
 unfoldable pub node_at : ℕ → Layout → ℕ → List Node → List ℕ → Result (Node × List ℕ) Fault
 node_at total layout next front bytes = do
   id ← number_at 8 total bytes
   a ← guard (here total bytes kinds.Id) (nat_le id.0 (last_id front) || nat_le next id.0) (tt {0})
   name ← named_at total front id.1
-  size ← number_at 8 total name.1
-  b ← guard (here total name.1 kinds.Size) (nat_lt greatest_size size.0) (tt {0})
+  size ← number_at 8 total name.2
+  b ← guard (here total name.2 kinds.Size) (nat_lt greatest_size size.0) (tt {0})
   version ← number_at 8 total size.1
   c ← guard (here total size.1 kinds.NodeVersion)
       ((version.0 == 0) || nat_lt greatest_number version.0) (tt {0})
   count ← number_at 4 total version.1
-  runs ← runs_at total layout (blocks_of size.0) None count.0 count.1
+  blocks ← map_at total layout (blocks_of size.0) count.0 count.1
   Ok (
-    record { id = id.0; name = name.0; size = size.0; version = version.0; runs = runs.0 },
-    runs.1,
+    record {
+      id = id.0;
+      name = name.0;
+      kind = name.1;
+      size = size.0;
+      version = version.0;
+      map = blocks.0;
+    },
+    blocks.1,
   )
 
 unfoldable pub nodes_at : ℕ → Layout → ℕ → List Node → ℕ → List ℕ

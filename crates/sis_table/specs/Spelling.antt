@@ -1,8 +1,10 @@
 -- The one spelling of a table. Numbers have their lowest byte first.
 use Rattle.std.specs.Prelude.{◌≡◌, ℕ, ◌+◌, ◌*◌, ◌≤◌, List, [], ◌∷◌, ◌++◌, length, flat_map}
 use Rattle.byteorder.specs.Endian.{little_bytes}
+use Rattle.sis_ranges.specs.declared.run.Run.{Run}
+use Rattle.sis_ranges.specs.Extents.{runs_of}
+use Rattle.sis_table.specs.Kinds.{kind_byte}
 use Rattle.sis_table.specs.Volume.{VolumeTable, IsTable}
-use Rattle.sis_table.specs.declared.runs.Run.{Run}
 use Rattle.sis_table.specs.declared.node.Node.{Node}
 
 -- numbers of two, four and eight bytes
@@ -27,10 +29,11 @@ run_text r = le8 r.first ++ le8 r.count ++ le8 r.place
 abbrev pub runs_text : List Run → List ℕ
 runs_text runs = le4 (length runs) ++ flat_map run_text runs
 
--- id, name, kind (0: a plain file), size, version and runs
+-- id, name, kind, size, version and the maximal runs of the map
 unfoldable pub node_text : Node → List ℕ
 node_text n =
-    le8 n.id ++ name_text n.name ++ 0 ∷ [] ++ le8 n.size ++ le8 n.version ++ runs_text n.runs
+    le8 n.id ++ name_text n.name ++ kind_byte n.kind ∷ [] ++ le8 n.size ++ le8 n.version
+    ++ runs_text (runs_of n.map)
 
 -- next id, greatest index, number of files, and the files by rising id
 unfoldable pub spelling : VolumeTable → List ℕ
@@ -38,12 +41,12 @@ spelling v = le8 v.next_id ++ le8 v.greatest ++ le4 (length v.nodes) ++ flat_map
 
 -- how long a file's text is
 abbrev pub node_len : Node → ℕ
-node_len n = 31 + 2 * length n.name + 24 * length n.runs
+node_len n = 31 + 2 * length n.name + 24 * length (runs_of n.map)
 
 -- the counts of its units and runs keep their limits
 pub record IsShort (n : Node) : Type 0 where
   pub name : length n.name ≤ 255
-  pub runs : length n.runs ≤ 16777216
+  pub runs : length (runs_of n.map) ≤ 16777216
 
 -- a table, and the length of its spelling
 pub record IsMeasured (v : VolumeTable) (len : ℕ) : Type 0 where

@@ -1,20 +1,19 @@
 //! Looks for a place that is mapped twice, by a mark for each place of the image.
-ghost use Rattle.std.specs.Prelude.{◌≡◌, ◌≤◌, ◌++◌, ◌∷◌, [], List, length, All, take, drop, replicate, slice_range, true, false};
+ghost use Rattle.std.specs.Prelude.{◌≡◌, ◌≤◌, ℕ, ◌++◌, ◌∷◌, [], List, length, All, flat_map, take, drop, replicate, slice_range, true, false};
 ghost use Rattle.std.specs.Bool.{OnFalse};
 ghost use Rattle.std.specs.List.{list_any};
+ghost use Rattle.sis_ranges.specs.Extents.{place_end, run_places};
 ghost use Rattle.sis_table.specs.Good.{repeats, Marks};
-ghost use Rattle.sis_table.specs.Runs.{place_end};
-ghost use Rattle.sis_table.specs.declared.runs.Run.{Run as ARun};
 
-use crate::Run;
+use sis_ranges::Run;
 
 /// Marks the places of the runs, up to a run that has a place with a mark.
 pub fn maps_twice(marks: &mut [bool], runs: &[Run]) -> bool
     requires { All (λ r. place_end r ≤ length marks.old) runs.now }
-    ensures value { (before : List ARun) → Marks marks.old before
-        → result ≡ repeats before runs.now }
-    ensures marks { (before : List ARun) → Marks marks.old before
-        → OnFalse result (Marks marks.new (before ++ runs.now)) }
+    ensures value { (before : List ℕ) → Marks marks.old before
+        → result ≡ repeats before (flat_map run_places runs.now) }
+    ensures marks { (before : List ℕ) → Marks marks.old before
+        → OnFalse result (Marks marks.new (before ++ flat_map run_places runs.now)) }
 {
     for run in runs {
         if mark(marks, run) {

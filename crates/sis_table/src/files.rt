@@ -1,38 +1,46 @@
-//! Files by rising ids, with an index of their names: a look-up by id or by name takes logarithmic
-//! time.
-ghost use Rattle.std.specs.Prelude.{◌≡◌, ◌+◌, ◌*◌, ◌<◌, ◌≤◌, ◌^◌, ◌==◌, ◌++◌, [], ◌∷◌, List, length, find, position, sum_by, false, true, IsSome, IfOk, IfErr, IfSome, OnOk, OnErr};
+//! Files by rising ids, with an index of their names, both in trees: a look-up by id or by name takes
+//! logarithmic time.
+ghost use Rattle.std.specs.Prelude.{◌≡◌, ◌<◌, ◌==◌, ◌++◌, [], ◌∷◌, List, length, find, false, is_some, OnOk, OnErr};
 ghost use Rattle.std.specs.List.{list_any};
+ghost use Rattle.std.specs.Map.Iter.{ShowsInOrder, deref};
 ghost use Rattle.std.specs.Option.{option_map, option_copied};
-ghost use Rattle.sis_table.specs.Edits.{IfThere, with_node, with_size, with_map, with_cut};
-ghost use Rattle.sis_table.specs.Index.{AreRising, IsLastFree};
-ghost use Rattle.sis_table.specs.Runs.{MayAppend, MayCut, block_end};
-ghost use Rattle.sis_table.specs.Spelling.{node_len};
+ghost use Rattle.sis_table.specs.Drafts.{LeadsTo};
+ghost use Rattle.sis_table.specs.Index.{AreRising, IsNextIn};
 ghost use Rattle.sis_table.specs.Volume.{VolumeTable, IsNextFile, has_name, id_of, last_id};
+ghost use Rattle.sis_table.specs.declared.node.Node.{Node as TheNode};
 
-use crate::{Node, Run};
+use crate::Node;
+use crate::trees::{Changes, enter, forget, put_all};
 use sis_name::Name;
 use std::alloc::{AllocError, Global};
 use std::collections::BTreeMap;
+use std::collections::btree_map::Values;
 use std::marker::Model;
 use std::ops::Bound;
 
 /// Files by rising ids, with an index of their names.
 #[derive(Drop)]
 pub struct Files {
-    nodes: Vec<Node>,
+    alloc: Global,
+    nodes: BTreeMap<u64, Node>,
     names: BTreeMap<Name, u64>,
 }
 
 impl Model for Files {
     ghost use Rattle.std.specs.Prelude.{List};
+    ghost use Rattle.std.specs.BTreeMap.{values};
     ghost use Rattle.sis_table.specs.declared.node.Node.{Node};
-    ghost use Rattle.sis_table.specs.Index.{AreIndexed};
+    ghost use Rattle.sis_table.specs.Index.{AreKept};
+    ghost use Rattle.std.specs.Coded.{codes};
+    ghost use Rattle.sis_ranges.specs.contracts.extents.Extents as extents;
 
     ghost Value = { List Node };
 
-    ghost view = { λ f. f.nodes.items };
+    ghost coded = { Prim.hlevel (codes, extents.the_row.coded) };
 
-    ghost invariant = { λ f. AreIndexed f.nodes.items f.names };
+    ghost view = { λ f. values f.nodes };
+
+    ghost invariant = { λ f. AreKept f.nodes f.names };
 }
 
 impl Files {
@@ -41,31 +49,39 @@ impl Files {
         ensures { result ≡ [] }
     {
         Files {
-            nodes: Vec::new(alloc),
+            alloc,
+            nodes: BTreeMap::new(alloc),
             names: BTreeMap::new(alloc),
         }
     }
 
     /// Where their memory comes from.
     pub fn allocator(&self) -> Global {
-        *self.nodes.allocator()
+        self.alloc
     }
 
-    /// The files.
-    pub fn as_slice(&self) -> &[Node]
-        ensures { result.now ≡ self.now }
+    /// How many files there are.
+    pub fn len(&self) -> u64
+        ensures { result ≡ length self.now }
     {
-        &self.nodes
+        self.nodes.len() as u64
+    }
+
+    /// The files, by rising id.
+    pub fn nodes(&self) -> Values<'_, u64, Node>
+        ensures rest { result ≡ self.now }
+        ensures runs { ShowsInOrder (deref {X = Node}) }
+    {
+        self.nodes.values()
     }
 
     /// The id of the last file, 0 where there is none.
-    #[tactic(auto, using(crate::proofs::ReadingLoops::last_id_at))]
     pub fn last_id(&self) -> u64
         ensures { result ≡ last_id self.now }
     {
-        match self.nodes.as_slice() {
-            [] => 0,
-            [.., node] => node.id,
+        match self.nodes.last_key_value() {
+            None => 0,
+            Some((id, _)) => *id,
         }
     }
 
@@ -87,8 +103,14 @@ impl Files {
     pub fn node(&self, id: u64) -> Option<&Node>
         ensures { option_copied result ≡ find (λ n. n.id == id) self.now }
     {
-        let at = position(&self.nodes, id)?;
-        Some(&self.nodes[at])
+        self.nodes.get(&id)
+    }
+
+    /// A file has this id.
+    pub fn has_node(&self, id: u64) -> bool
+        ensures { result ≡ is_some (find (λ n. n.id == id) self.now) }
+    {
+        self.node(id).is_some()
     }
 
     /// The file with the least name that is greater than this one, and with the least name of all
@@ -105,6 +127,15 @@ impl Files {
         Some(*id)
     }
 
+    /// The file with the least id that is greater than this one.
+    pub fn next_node(&self, after: u64) -> Option<&Node>
+        ensures { IsNextIn self.now after (option_copied result) }
+    {
+        let start = Bound::Excluded(&after);
+        let (_, node) = self.nodes.range((start, Bound::Unbounded)).next()?;
+        Some(node)
+    }
+
     /// Adds a file behind the others.
     pub fn push(&mut self, node: Node) -> Result<(), AllocError>
         requires rises { last_id self.old < node.id }
@@ -112,71 +143,42 @@ impl Files {
         ensures ok { OnOk result (self.new ≡ self.old ++ node ∷ []) }
         ensures err { OnErr result (self.new ≡ self.old) }
     {
-        let name = node.name.copy(self.allocator())?;
-        // With the room, the push below can't fail once the name is in the index.
-        self.nodes.reserve(1)?;
-        self.names.insert(name, node.id)?;
-        let _ = self.nodes.push(node);
+        let name = node.name.copy(self.alloc)?;
+        let id = node.id;
+        self.nodes.insert(id, node)?;
+        match self.names.insert(name, id) {
+            Ok(_) => {}
+            Err(_) => {
+                let _ = self.nodes.remove(&id);
+                return Err(AllocError);
+            }
+        }
         Ok(())
     }
 
-    /// Takes the last file out again.
-    pub fn pop(&mut self) -> Node
-        requires some { 0 < length self.old }
-        requires free { IsLastFree self.old }
-        ensures { self.old ≡ self.new ++ result ∷ [] }
-    {
-        let node = self.nodes.pop().unwrap();
-        self.names.remove(&node.name);
-        node
-    }
-
-    /// Gives the file with this id another size.
-    pub fn resize(&mut self, id: u64, size: u64)
-        requires { IsSome (find (λ n. n.id == id) self.old) }
-        ensures { self.new ≡ with_node id (with_size size) self.old }
-    {
-        let at = position(&self.nodes, id).unwrap();
-        self.nodes[at].size = size;
-    }
-
-    /// Adds a run behind those of the file with this id. Answers how many bytes longer it makes the
-    /// spelling.
-    pub fn map(&mut self, id: u64, run: Run) -> Result<u64, AllocError>
-        requires may { IfThere (find (λ n. n.id == id) self.old) (λ n. MayAppend n.runs run) }
-        requires fits { block_end run < 2 ^ 64 }
-        ensures ok { OnOk result (self.new ≡ with_node id (with_map run) self.old) }
+    /// Carries out changes, or nothing where memory runs out.
+    pub fn publish(
+        &mut self,
+        nodes: Changes<u64, Node>,
+        names: Changes<Name, u64>,
+    ) -> Result<(), AllocError>
+        requires { (now : List TheNode) × AreRising now × LeadsTo self.old nodes names now }
+        ensures ok { OnOk result ((now : List TheNode) → AreRising now
+            → LeadsTo self.old nodes names now → self.new ≡ now) }
         ensures err { OnErr result (self.new ≡ self.old) }
-        ensures longer { IfOk result (λ more.
-            sum_by node_len self.new ≡ sum_by node_len self.old + more) }
-        ensures small { IfOk result (λ more. more ≤ 24) }
     {
-        let at = position(&self.nodes, id).unwrap();
-        let runs = &mut self.nodes[at].runs;
-        let before = runs.len();
-        runs.push(run)?;
-        Ok(24 * (runs.len() - before) as u64)
+        // Memory may run out in these two alone, and what they enter is taken out again.
+        let entered = enter(&mut self.names, names.added, self.alloc)?;
+        match enter(&mut self.nodes, nodes.added, self.alloc) {
+            Ok(_) => {
+                put_all(&mut self.nodes, nodes.touched);
+                put_all(&mut self.names, names.touched);
+                Ok(())
+            }
+            Err(_) => {
+                forget(&mut self.names, &entered);
+                Err(AllocError)
+            }
+        }
     }
-
-    /// Leaves so many runs of the file with this id, the last one of so many blocks. Answers how
-    /// many bytes shorter it makes the spelling.
-    pub fn cut(&mut self, id: u64, kept: usize, count: u64) -> u64
-        requires { IfThere (find (λ n. n.id == id) self.old) (λ n. MayCut n.runs kept count) }
-        ensures value { self.new ≡ with_node id (with_cut kept count) self.old }
-        ensures shorter { sum_by node_len self.old ≡ sum_by node_len self.new + result }
-    {
-        let at = position(&self.nodes, id).unwrap();
-        let runs = &mut self.nodes[at].runs;
-        let before = runs.len();
-        runs.cut(kept, count);
-        24 * (before - kept) as u64
-    }
-}
-
-/// Where the file with this id stands.
-fn position(nodes: &[Node], id: u64) -> Option<usize>
-    requires { AreRising nodes.now }
-    ensures { result ≡ position (λ n. n.id == id) nodes.now }
-{
-    nodes.binary_search_by_key(&id, |node| node.id).ok()
 }

@@ -3,20 +3,26 @@
 #![tactic(auto)]
 
 mod checking;
+mod draft;
 mod edit;
 mod fault;
 mod files;
+mod kind;
+pub mod laws;
 mod node;
+mod noting;
+mod place_use;
 mod reading;
-mod runs;
 mod table;
-mod undo;
+mod trees;
 mod writing;
 
 pub use edit::Edit;
 pub use fault::{EditsFault, GoodFault, TableFault};
+pub use kind::NodeKind;
 pub use node::Node;
+pub use place_use::PlaceUse;
 pub use reading::one_spelling;
-pub use runs::{Run, Runs};
 pub use sis_disk::{GoodKind, ImageKind, Layout, TableKind};
+pub use sis_ranges::{Extents, Run};
 pub use table::Table;

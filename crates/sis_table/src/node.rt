@@ -1,8 +1,9 @@
 //! A file of the table.
 ghost use Rattle.std.specs.Prelude.{◌≡◌, IfOk};
 
-use crate::Runs;
+use crate::NodeKind;
 use sis_name::Name;
+use sis_ranges::Extents;
 use std::alloc::{AllocError, Global};
 
 /// A file of the table.
@@ -12,12 +13,14 @@ pub struct Node {
     pub id: u64,
     /// Its name.
     pub name: Name,
+    /// What it is.
+    pub kind: NodeKind,
     /// Its size in bytes, at most 2^36.
     pub size: u64,
     /// Its version, which rises with each change of its bytes.
     pub version: u64,
     /// Where its blocks lie. A block that lies nowhere has zeros.
-    pub runs: Runs,
+    pub map: Extents,
 }
 
 impl Node {
@@ -28,9 +31,10 @@ impl Node {
         Ok(Node {
             id: self.id,
             name: self.name.copy(alloc)?,
+            kind: self.kind,
             size: self.size,
             version: self.version,
-            runs: self.runs.copy(alloc)?,
+            map: self.map.copy(alloc)?,
         })
     }
 }

@@ -7,13 +7,14 @@ ghost use Rattle.sis_table.specs.Volume.{VolumeTable, IsTable, has_name, last_id
 ghost use Rattle.sis_table.specs.Spelling.{spelling};
 ghost use Rattle.sis_table.specs.Reading.{number_at, units_of, units_at, is_bad_name, named_at, named, here};
 ghost use Rattle.sis_reading.specs.Steps.{Gives, guard};
-ghost use Rattle.sis_table.specs.Reading.{joins, end_before, run_at, runs_at, node_at, nodes_at, head_at, table_at};
+ghost use Rattle.sis_table.specs.Reading.{joins, end_before, kind_at, map_at, run_at, runs_at, node_at, nodes_at, head_at, table_at};
 
 use crate::files::Files;
-use crate::{Layout, Node, Run, Runs, TableFault, TableKind};
+use crate::{Layout, Node, NodeKind, TableFault, TableKind};
 use byteorder::{ByteOrder, LittleEndian};
 use sis_disk::BLOCK_LEN;
 use sis_name::{Name, NameFault};
+use sis_ranges::{Extents, Run};
 use std::alloc::Global;
 
 /// The greatest id, version and index.
@@ -125,22 +126,38 @@ fn judged_name(
     total: usize,
     front: &Files,
     bytes: &[u8],
+    kind: NodeKind,
     units: &[u16],
 ) -> Result<Name, TableFault>
     requires { length bytes.now ≤ total }
     ensures value { Gives named (λ name. name) result
-        (guard (here total bytes.now TableKind.Name) (is_bad_name front.now units.now) units.now) }
+        (guard (here total bytes.now TableKind.Name) (is_bad_name front.now kind units.now)
+        units.now) }
     ensures free { IfOk result (λ name. list_any (has_name name) front.now ≡ false) }
 {
     match Name::from_units(alloc, units) {
         Ok(name) => {
-            if name.is_store() || front.has_name(&name) {
+            if !kind.fits(&name) || front.has_name(&name) {
                 return Err(fault(total, bytes, TableKind::Name));
             }
             Ok(name)
         }
         Err(NameFault::Memory) => Err(TableFault::Memory),
         Err(_) => Err(fault(total, bytes, TableKind::Name)),
+    }
+}
+
+/// A kind.
+#[tactic(auto, unfolding(crate::specs::Reading::kind_at))]
+fn kind_of_file(total: usize, bytes: &[u8]) -> Result<(NodeKind, &[u8]), TableFault>
+    requires { length bytes.now ≤ total }
+    ensures value { Gives named (λ x. (x.0, x.1.now)) result (kind_at total bytes.now) }
+    ensures shorter { IfOk result (λ x. length x.1.now ≤ total) }
+{
+    let (byte, rest) = u8_at(total, bytes)?;
+    match NodeKind::from_byte(byte) {
+        Some(kind) => Ok((kind, rest)),
+        None => Err(fault(total, bytes, TableKind::Kind)),
     }
 }
 
@@ -151,19 +168,17 @@ fn named_of<'a>(
     total: usize,
     front: &Files,
     bytes: &'a [u8],
-) -> Result<(Name, &'a [u8]), TableFault>
+) -> Result<(Name, NodeKind, &'a [u8]), TableFault>
     requires { length bytes.now ≤ total }
-    ensures value { Gives named (λ x. (x.0, x.1.now)) result (named_at total front.now bytes.now) }
-    ensures shorter { IfOk result (λ x. length x.1.now ≤ total) }
+    ensures value { Gives named (λ x. (x.0, x.1, x.2.now)) result
+        (named_at total front.now bytes.now) }
+    ensures shorter { IfOk result (λ x. length x.2.now ≤ total) }
     ensures free { IfOk result (λ x. list_any (has_name x.0) front.now ≡ false) }
 {
     let (units, rest) = name_units_at(alloc, total, bytes)?;
-    let (kind, after) = u8_at(total, rest)?;
-    if kind > 0 {
-        return Err(fault(total, rest, TableKind::Kind));
-    }
-    let name = judged_name(alloc, total, front, bytes, &units)?;
-    Ok((name, after))
+    let (kind, after) = kind_of_file(total, rest)?;
+    let name = judged_name(alloc, total, front, bytes, kind, &units)?;
+    Ok((name, kind, after))
 }
 
 /// The block behind the run before.
@@ -271,32 +286,32 @@ fn run_list<'a>(
     Ok((runs, rest))
 }
 
-/// Runs of a file of so many blocks.
-#[tactic(auto, using(crate::proofs::ReadingRuns::runs_at_are))]
-fn runs_of<'a>(
+/// The map of a file of so many blocks.
+#[tactic(auto, unfolding(crate::specs::Reading::map_at), using(crate::proofs::ReadingRuns::runs_at_are, crate::proofs::ReadingRuns::runs_at_within))]
+fn map_of_runs<'a>(
     alloc: Global,
     total: usize,
     layout: &Layout,
     blocks: u64,
     count: u32,
     bytes: &'a [u8],
-) -> Result<(Runs, &'a [u8]), TableFault>
+) -> Result<(Extents, &'a [u8]), TableFault>
     requires whole { length bytes.now ≤ total }
     requires layout { IsLayout layout.now }
-    requires blocks { blocks < 2 ^ 32 }
+    requires blocks { blocks ≤ 2 ^ 24 }
     ensures value { Gives named (λ x. (x.0, x.1.now)) result
-        (runs_at total layout.now blocks None count bytes.now) }
+        (map_at total layout.now blocks count bytes.now) }
     ensures shorter { IfOk result (λ x. length x.1.now ≤ total) }
 {
     let (runs, rest) = run_list(alloc, total, layout, blocks, count, bytes)?;
-    Ok((Runs::from_sorted(runs), rest))
+    Ok((Extents::from_runs(runs), rest))
 }
 
 /// How many blocks so many bytes take.
 fn blocks_for(size: u64) -> u64
     requires { size ≤ greatest_size }
     ensures value { result ≡ blocks_of size }
-    ensures limit { result < 2 ^ 32 }
+    ensures limit { result ≤ 2 ^ 24 }
 {
     (size + (BLOCK_LEN - 1)) / BLOCK_LEN
 }
@@ -323,7 +338,7 @@ fn node_of<'a>(
     if id <= front.last_id() || next_id <= id {
         return Err(fault(total, bytes, TableKind::Id));
     }
-    let (name, after_name) = named_of(alloc, total, front, after_id)?;
+    let (name, kind, after_name) = named_of(alloc, total, front, after_id)?;
     let (size, after_size) = u64_at(total, after_name)?;
     if size > GREATEST_SIZE {
         return Err(fault(total, after_name, TableKind::Size));
@@ -333,13 +348,14 @@ fn node_of<'a>(
         return Err(fault(total, after_size, TableKind::NodeVersion));
     }
     let (count, after_count) = u32_at(total, after_version)?;
-    let (runs, rest) = runs_of(alloc, total, layout, blocks_for(size), count, after_count)?;
+    let (map, rest) = map_of_runs(alloc, total, layout, blocks_for(size), count, after_count)?;
     let node = Node {
         id,
         name,
+        kind,
         size,
         version,
-        runs,
+        map,
     };
     Ok((node, rest))
 }

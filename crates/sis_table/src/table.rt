@@ -1,25 +1,30 @@
 //! The table: files by rising id.
 ghost use Rattle.std.specs.Prelude.{◌≡◌, ◌==◌, ◌+◌, ◌<◌, ◌≤◌, ◌++◌, length, vec_capacity, [], IfOk, OnOk, OnErr, IfErr, IsOk, IsErr, IsSome, Ok, None};
+ghost use Rattle.std.specs.Map.Iter.{ShowsInOrder, deref};
 ghost use Rattle.std.specs.Option.{option_map, option_copied};
 ghost use Rattle.sis_disk.specs.Layout.{IsLayout};
-ghost use Rattle.sis_table.specs.Volume.{VolumeTable, IsTable, IsNextFile, empty_table, node_named, node_with, id_of};
+ghost use Rattle.sis_table.specs.Volume.{VolumeTable, IsTable, IsNextFile, IsNextNode, empty_table, node_named, node_with, id_of};
 ghost use Rattle.sis_table.specs.Spelling.{spelling};
 ghost use Rattle.sis_table.specs.Good.{first_defect, IsGood, Names};
 ghost use Rattle.sis_table.specs.Reading.{IsWithin, table_at, named};
 ghost use Rattle.sis_reading.specs.Steps.{Gives};
-ghost use Rattle.sis_table.specs.Edits.{edited, edited_by, map_edit, IfThere, MayEdit};
-ghost use Rattle.sis_table.specs.Edits.{MayEditBy, MayMake, MayMap, MaySize, RefusesEdits};
-ghost use Rattle.sis_table.specs.Runs.{last_count};
-ghost use Rattle.sis_table.specs.Undo.{undo_of, size_in, runs_in, Undoes, Leads};
+ghost use Rattle.std.specs.List.{AllByRecursion};
+ghost use Rattle.sis_table.specs.Drafts.{Drafts};
+ghost use Rattle.sis_table.specs.Edits.{edited, edited_by, MayEdit, MayEditBy, MayMake, RefusesEdits};
+ghost use Rattle.sis_table.specs.Inside.{Tells};
+ghost use Rattle.sis_table.specs.Uses.{ChangesUse, IsDataUse, TakesFresh};
 
 use crate::checking::maps_twice;
+use crate::draft::Draft;
 use crate::files::Files;
+use crate::noting::note;
 use crate::reading::read_table;
-use crate::undo::Undo;
-use crate::writing::{len_of_node, put_nodes, put_u32, put_u64};
-use crate::{Edit, EditsFault, GoodFault, GoodKind, Layout, Node, Run, Runs, TableFault};
+use crate::writing::{put_nodes, put_u32, put_u64};
+use crate::{Edit, EditsFault, GoodFault, GoodKind, Layout, Node, NodeKind, PlaceUse, TableFault};
 use sis_name::Name;
+use sis_ranges::{Extents, Run};
 use std::alloc::{AllocError, Global};
+use std::collections::btree_map::Values;
 use std::marker::Model;
 
 /// The length of a spelling in front of its files, in bytes.
@@ -39,8 +44,12 @@ pub struct Table {
 impl Model for Table {
     ghost use Rattle.sis_table.specs.Volume.{VolumeTable};
     ghost use Rattle.sis_table.specs.Spelling.{IsMeasured};
+    ghost use Rattle.std.specs.Coded.{codes};
+    ghost use Rattle.sis_ranges.specs.contracts.extents.Extents as extents;
 
     ghost Value = { VolumeTable };
+
+    ghost coded = { Prim.hlevel (codes, extents.the_row.coded) };
 
     ghost view = { λ a. record {
       layout = a.layout;
@@ -112,7 +121,7 @@ impl Table {
     pub fn files(&self) -> u64
         ensures { result ≡ length self.now.nodes }
     {
-        self.files.as_slice().len() as u64
+        self.files.len()
     }
 
     /// The file with the least name that is greater than this one, and with the least name of all
@@ -124,10 +133,21 @@ impl Table {
     }
 
     /// The files, by rising id.
-    pub fn nodes(&self) -> &[Node]
-        ensures { result.now ≡ self.now.nodes }
+    pub fn nodes(&self) -> Values<'_, u64, Node>
+        ensures rest { result ≡ self.now.nodes }
+        ensures runs { ShowsInOrder (deref {X = Node}) }
     {
-        self.files.as_slice()
+        self.files.nodes()
+    }
+
+    /// The least id of a file that is greater than this one. Takes no memory.
+    pub fn next_node(&self, after: u64) -> Option<u64>
+        ensures { IsNextNode self.now after result }
+    {
+        match self.files.next_node(after) {
+            Some(node) => Some(node.id),
+            None => None,
+        }
     }
 
     /// Judges whether the files go together: no place is mapped twice.
@@ -138,8 +158,8 @@ impl Table {
         ensures only { IsGood self.now → IfErr result (λ fault. fault ≡ GoodFault.Memory) }
     {
         let mut marks = vec![in alloc; false; self.layout.total as usize]?;
-        for node in self.files.as_slice() {
-            if maps_twice(&mut marks, node.runs.as_slice()) {
+        for node in self.files.nodes() {
+            if maps_twice(&mut marks, node.map.runs()) {
                 return Err(GoodFault::Bad {
                     kind: GoodKind::PlaceTwice,
                     file: node.id,
@@ -155,7 +175,7 @@ impl Table {
         ensures { IfOk result (λ copy. copy ≡ self.now) }
     {
         let mut files = Files::new(alloc);
-        for node in self.files.as_slice() {
+        for node in self.files.nodes() {
             files.push(node.copy(alloc)?)?;
         }
         Ok(Table {
@@ -173,10 +193,89 @@ impl Table {
         ensures ok { OnOk result (self.new ≡ edited self.old edit.now) }
         ensures err { OnErr result (self.new ≡ self.old) }
     {
+        let mut draft = self.draft();
+        self.edit_in(&mut draft, edit)?;
+        self.publish(draft)
+    }
+
+    /// Makes all of these edits, or none where memory runs out or the spelling would be longer than
+    /// so many bytes. Answers which places became free and which used, in the order of the edits.
+    pub fn apply_all(&mut self, edits: &[Edit], most: u64) -> Result<Vec<PlaceUse>, EditsFault>
+        requires { MayEditBy self.old edits.now }
+        ensures ok { OnOk result (self.new ≡ edited_by self.old edits.now) }
+        ensures err { OnErr result (self.new ≡ self.old) }
+        ensures full { most < length (spelling (edited_by self.old edits.now)) → IsErr result }
+        ensures cause { IfErr result
+            (RefusesEdits (length (spelling (edited_by self.old edits.now))) most) }
+
+        // What became of the places, where none was mapped twice, and the edits map none that is
+        // mapped when their turn comes.
+        ensures uses { IfOk result (λ uses. IsGood self.old → TakesFresh self.old edits.now
+            → ChangesUse self.old self.new uses.items) }
+        ensures places { IfOk result (λ uses.
+            AllByRecursion (IsDataUse self.old.layout) uses.items) }
+        ensures good { OnOk result (IsGood self.old → TakesFresh self.old edits.now
+            → IsGood self.new) }
+    {
+        let mut uses = Vec::new(self.files.allocator());
+        let draft = self.drafted(edits, &mut uses)?;
+        let needed = draft.text_len;
+        if needed > most {
+            return Err(EditsFault::TooLong { needed });
+        }
+        self.publish(draft)?;
+        Ok(uses)
+    }
+
+    // A draft of no changes.
+    fn draft(&self) -> Draft
+        ensures { Drafts self.now result self.now }
+    {
+        Draft::new(self.files.allocator(), self.next_id, self.text_len)
+    }
+
+    // A draft of these edits, and what they do to the places.
+    fn drafted(&self, edits: &[Edit], uses: &mut Vec<PlaceUse>) -> Result<Draft, AllocError>
+        requires may { MayEditBy self.now edits.now }
+        requires none { uses.old.items ≡ [] }
+        ensures drafts { IfOk result (λ draft. Drafts self.now draft (edited_by self.now edits.now)) }
+        ensures len { IfOk result (λ draft.
+            draft.text_len ≡ length (spelling (edited_by self.now edits.now))) }
+        ensures told { OnOk result (Tells self.now edits.now uses.new.items) }
+        ensures places { OnOk result
+            (AllByRecursion (IsDataUse self.now.layout) uses.new.items) }
+        ensures table { IsTable self.now }
+    {
+        let mut draft = self.draft();
+        for edit in edits {
+            // Before it is made: what it frees is known from the files as they are till then.
+            note(&self.files, &draft, edit, uses)?;
+            self.edit_in(&mut draft, edit)?;
+        }
+        Ok(draft)
+    }
+
+    // Makes an edit in a draft.
+    fn edit_in(&self, draft: &mut Draft, edit: &Edit) -> Result<(), AllocError>
+        requires { (now : VolumeTable) × Drafts self.now draft.old now × MayEdit now edit.now }
+        ensures { OnOk result ((now : VolumeTable) → Drafts self.now draft.old now
+            → MayEdit now edit.now → Drafts self.now draft.new (edited now edit.now)) }
+    {
         match edit {
-            Edit::Make { id, name } => self.make(*id, name),
+            Edit::Make { id, kind, name } => {
+                self.make_in(draft, *id, *kind, name)?;
+                Ok(())
+            }
+            Edit::Drop { id } => {
+                draft.drop_file(&self.files, *id)?;
+                Ok(())
+            }
+            Edit::Rename { id, name } => {
+                draft.rename(&self.files, *id, name)?;
+                Ok(())
+            }
             Edit::Size { id, size } => {
-                self.resize(*id, *size);
+                draft.resize(&self.files, *id, *size)?;
                 Ok(())
             }
             Edit::Map {
@@ -184,182 +283,69 @@ impl Table {
                 first,
                 count,
                 place,
-            } => self.map(
-                *id,
-                Run {
+            } => {
+                let run = Run {
                     first: *first,
                     count: *count,
                     place: *place,
-                },
-            ),
+                };
+                draft.map(&self.files, *id, run)?;
+                Ok(())
+            }
+            Edit::Unmap { id, first, count } => {
+                draft.unmap(&self.files, *id, *first, *count)?;
+                Ok(())
+            }
+            Edit::Version { id, version } => {
+                draft.set_version(&self.files, *id, *version)?;
+                Ok(())
+            }
         }
     }
 
-    fn make(&mut self, id: u64, name: &Name) -> Result<(), AllocError>
-        requires { MayMake self.old id name.now }
-        ensures ok { OnOk result (self.new ≡ edited self.old (Edit.Make id name.now)) }
-        ensures err { OnErr result (self.new ≡ self.old) }
+    fn make_in(
+        &self,
+        draft: &mut Draft,
+        id: u64,
+        kind: NodeKind,
+        name: &Name,
+    ) -> Result<(), AllocError>
+        requires { (now : VolumeTable) × Drafts self.now draft.old now
+            × MayMake now id kind name.now }
+        ensures { OnOk result ((now : VolumeTable) → Drafts self.now draft.old now
+            → MayMake now id kind name.now
+            → Drafts self.now draft.new (edited now (Edit.Make id kind name.now))) }
     {
         let alloc = self.files.allocator();
         let node = Node {
             id,
             name: name.copy(alloc)?,
+            kind,
             size: 0,
             version: 1,
-            runs: Runs::new(alloc),
+            map: Extents::new(alloc),
         };
-        let more = len_of_node(&node);
-        self.files.push(node)?;
-        self.next_id = id + 1;
-        self.text_len += more;
+        draft.make(&self.files, node)?;
         Ok(())
     }
 
-    fn resize(&mut self, id: u64, size: u64)
-        requires { IfThere (node_with self.old id) (λ n. MaySize n size) }
-        ensures { self.new ≡ edited self.old (Edit.Size id size) }
-    {
-        self.files.resize(id, size);
-    }
-
-    fn map(&mut self, id: u64, run: Run) -> Result<(), AllocError>
-        requires { IfThere (node_with self.old id) (λ n. MayMap self.old.layout n run) }
-        ensures ok { OnOk result (self.new ≡ edited self.old (map_edit id run)) }
+    // Carries out a draft, or nothing where memory runs out.
+    fn publish(&mut self, draft: Draft) -> Result<(), AllocError>
+        requires { (now : VolumeTable) × Drafts self.old draft now }
+        ensures ok { OnOk result ((now : VolumeTable) → Drafts self.old draft now
+            → self.new ≡ now) }
         ensures err { OnErr result (self.new ≡ self.old) }
     {
-        self.text_len += self.files.map(id, run)?;
-        Ok(())
-    }
-
-    /// Makes all of these edits, or none where memory runs out or the spelling would be longer than
-    /// so many bytes.
-    pub fn apply_all(&mut self, edits: &[Edit], most: u64) -> Result<(), EditsFault>
-        requires { MayEditBy self.old edits.now }
-        ensures ok { OnOk result (self.new ≡ edited_by self.old edits.now) }
-        ensures err { OnErr result (self.new ≡ self.old) }
-        ensures full { most < length (spelling (edited_by self.old edits.now)) → IsErr result }
-        ensures cause { IfErr result
-            (RefusesEdits (length (spelling (edited_by self.old edits.now))) most) }
-    {
-        let mut undos = Vec::with_capacity(self.files.allocator(), edits.len())?;
-        match self.apply_noting(edits, &mut undos) {
-            Ok(()) => {
-                let needed = self.encoded_len();
-                if needed <= most {
-                    return Ok(());
-                }
-                self.roll_back(undos);
-                Err(EditsFault::TooLong { needed })
-            }
-            Err(_) => {
-                self.roll_back(undos);
-                Err(EditsFault::Memory)
-            }
-        }
-    }
-
-    // Makes the edits up to one for which memory runs out, and notes what takes each back.
-    fn apply_noting(&mut self, edits: &[Edit], undos: &mut Vec<Undo>) -> Result<(), AllocError>
-        requires may { MayEditBy self.old edits.now }
-        requires none { undos.old.items ≡ [] }
-        requires room { length edits.now ≤ vec_capacity undos.old }
-        ensures ok { OnOk result (self.new ≡ edited_by self.old edits.now) }
-        ensures leads { Leads self.old undos.new.items self.new }
-    {
-        for edit in edits {
-            let undo = self.undo_of(edit);
-            self.apply(edit)?;
-            let _ = undos.push(undo);
-        }
-        Ok(())
-    }
-
-    fn undo_of(&self, edit: &Edit) -> Undo
-        requires { MayEdit self.now edit.now }
-        ensures value { result ≡ undo_of self.now edit.now }
-        ensures table { IsTable self.now }
-    {
-        match edit {
-            Edit::Make { .. } => Undo::Unmake {
-                next_id: self.next_id,
-            },
-            Edit::Size { id, .. } => self.undo_of_size(*id),
-            Edit::Map { id, .. } => self.undo_of_map(*id),
-        }
-    }
-
-    fn undo_of_size(&self, id: u64) -> Undo
-        requires { IsSome (node_with self.now id) }
-        ensures value { result ≡ Undo.Resize id (size_in (node_with self.now id)) }
-        ensures table { IsTable self.now }
-    {
-        let node = self.files.node(id).unwrap();
-        Undo::Resize {
-            id,
-            size: node.size,
-        }
-    }
-
-    fn undo_of_map(&self, id: u64) -> Undo
-        requires { IsSome (node_with self.now id) }
-        ensures value { result ≡ Undo.Unmap id (length (runs_in (node_with self.now id)))
-            (last_count (runs_in (node_with self.now id))) }
-        ensures table { IsTable self.now }
-    {
-        let node = self.files.node(id).unwrap();
-        Undo::Unmap {
-            id,
-            runs: node.runs.len(),
-            count: node.runs.last_count(),
-        }
-    }
-
-    // The last edit is the first one that is taken back.
-    fn roll_back(&mut self, mut undos: Vec<Undo>)
-        requires { (before : VolumeTable) × Leads before undos.items self.old }
-        ensures { (before : VolumeTable) → Leads before undos.items self.old
-            → self.new ≡ before }
-    {
-        while let Some(undo) = undos.pop() {
-            self.undo(undo);
-        }
-    }
-
-    fn undo(&mut self, undo: Undo)
-        requires { (before : VolumeTable) × Undoes before self.old undo }
-        ensures { (before : VolumeTable) → Undoes before self.old undo → self.new ≡ before }
-    {
-        match undo {
-            Undo::Unmake { next_id } => self.unmake(next_id),
-            Undo::Resize { id, size } => self.resize_back(id, size),
-            Undo::Unmap { id, runs, count } => self.unmap(id, runs, count),
-        }
-    }
-
-    fn unmake(&mut self, next_id: u64)
-        requires { (before : VolumeTable) × Undoes before self.old (Undo.Unmake next_id) }
-        ensures { (before : VolumeTable) → Undoes before self.old (Undo.Unmake next_id)
-            → self.new ≡ before }
-    {
-        let node = self.files.pop();
-        self.text_len -= len_of_node(&node);
+        let Draft {
+            next_id,
+            text_len,
+            nodes,
+            names,
+        } = draft;
+        self.files.publish(nodes, names)?;
         self.next_id = next_id;
-    }
-
-    fn resize_back(&mut self, id: u64, size: u64)
-        requires { (before : VolumeTable) × Undoes before self.old (Undo.Resize id size) }
-        ensures { (before : VolumeTable) → Undoes before self.old (Undo.Resize id size)
-            → self.new ≡ before }
-    {
-        self.resize(id, size);
-    }
-
-    fn unmap(&mut self, id: u64, runs: usize, count: u64)
-        requires { (before : VolumeTable) × Undoes before self.old (Undo.Unmap id runs count) }
-        ensures { (before : VolumeTable) → Undoes before self.old (Undo.Unmap id runs count)
-            → self.new ≡ before }
-    {
-        self.text_len -= self.files.cut(id, runs, count);
+        self.text_len = text_len;
+        Ok(())
     }
 
     /// Adds its spelling at the end. Takes no memory where there is room.
@@ -374,8 +360,8 @@ impl Table {
         out.reserve(self.encoded_len() as usize)?;
         put_u64(out, self.next_id);
         put_u64(out, self.greatest);
-        put_u32(out, self.files.as_slice().len() as u32);
-        put_nodes(out, self.files.as_slice());
+        put_u32(out, self.files.len() as u32);
+        put_nodes(out, &self.files);
         Ok(())
     }
 

@@ -1,10 +1,13 @@
 //! The spelling of a table: its bytes at the end of a vector that has room for them, so that
 //! nothing fails half-way.
-ghost use Rattle.std.specs.Prelude.{◌≡◌, ◌+◌, ◌*◌, ◌≤◌, ◌∷◌, [], ◌++◌, length, vec_capacity, flat_map, sum_by, All};
+ghost use Rattle.std.specs.Prelude.{◌≡◌, ◌+◌, ◌*◌, ◌≤◌, ◌∷◌, [], ◌++◌, length, vec_capacity, flat_map, sum_by};
+ghost use Rattle.std.specs.List.{AllByRecursion};
 ghost use Rattle.sis_table.specs.Spelling.{le2, le4, le8, name_text, run_text, runs_text, node_text, node_len, IsShort};
 
-use crate::{Node, Run};
+use crate::Node;
+use crate::files::Files;
 use byteorder::{ByteOrder, LittleEndian};
+use sis_ranges::Run;
 
 /// The most units of a name.
 const MOST_UNITS: usize = 255;
@@ -104,21 +107,20 @@ pub fn put_node(out: &mut Vec<u8>, node: &Node)
 {
     put_u64(out, node.id);
     put_name(out, node.name.units());
-    // The kind of a plain file.
-    put(out, &[0]);
+    put(out, &[node.kind.byte()]);
     put_u64(out, node.size);
     put_u64(out, node.version);
-    put_runs(out, node.runs.as_slice());
+    put_runs(out, node.map.runs());
 }
 
-pub fn put_nodes(out: &mut Vec<u8>, nodes: &[Node])
-    requires short { All IsShort nodes.now }
-    requires room { length out.old.items + sum_by node_len nodes.now ≤ vec_capacity out.old }
-    ensures items { out.new.items ≡ out.old.items ++ flat_map node_text nodes.now }
-    ensures size { length out.new.items ≡ length out.old.items + sum_by node_len nodes.now }
+pub fn put_nodes(out: &mut Vec<u8>, files: &Files)
+    requires short { AllByRecursion IsShort files.now }
+    requires room { length out.old.items + sum_by node_len files.now ≤ vec_capacity out.old }
+    ensures items { out.new.items ≡ out.old.items ++ flat_map node_text files.now }
+    ensures size { length out.new.items ≡ length out.old.items + sum_by node_len files.now }
     ensures room { vec_capacity out.old ≤ vec_capacity out.new }
 {
-    for node in nodes {
+    for node in files.nodes() {
         put_node(out, node);
     }
 }
@@ -129,5 +131,5 @@ pub fn len_of_node(node: &Node) -> u64
     ensures value { result ≡ node_len node.now }
     ensures small { result ≤ 402653725 }
 {
-    31 + 2 * node.name.units().len() as u64 + 24 * node.runs.as_slice().len() as u64
+    31 + 2 * node.name.units().len() as u64 + 24 * node.map.runs().len() as u64
 }

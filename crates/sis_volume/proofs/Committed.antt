@@ -11,6 +11,7 @@ use Rattle.sis_disk.proofs.Images.{leaves_weaker}
 use Rattle.sis_journal.specs.Committing.{Both, KeepsRest}
 use Rattle.sis_journal.specs.Texts.{HoldsText, KeepsData, KeepsText, OldOrNew, made_stable}
 use Rattle.sis_journal.specs.View.{JournalView}
+use Rattle.sis_places.specs.Places.{PlacesView, after_commit}
 use Rattle.sis_table.specs.Content.{files_of}
 use Rattle.sis_name.specs.Files.{Files}
 use Rattle.sis_table.specs.Good.{IsGood}
@@ -18,14 +19,14 @@ use Rattle.sis_table.specs.Image.{Holds}
 use Rattle.sis_table.specs.Opens.{OpensAs}
 use Rattle.sis_table.specs.Spelling.{spelling}
 use Rattle.sis_table.specs.Volume.{VolumeTable, IsTable, used_places}
-use Rattle.sis_table.proofs.ContentLemmas.{files_of-same}
-use Rattle.sis_table.proofs.PutLemmas.{is_used-between}
-use Rattle.sis_volume.specs.Invariant.{HasCommitted, IsCovered, IsVolume, KeepsTable}
+use Rattle.sis_table.proofs.CallerLemmas.{files_of-same}
+use Rattle.sis_table.proofs.CallerLemmas.{is_used-between}
+use Rattle.sis_volume.specs.Invariant.{HasCommitted, IsVolume, KeepsTable}
 use Rattle.sis_volume.specs.Stopping.{IsCommitted, MayCommit, OnlyOpens, OpensTable}
 use Rattle.sis_volume.specs.View.{VolumeView}
 use Rattle.sis_volume.proofs.Fronts.{files-data, kept-opens, text-holds, text-opens, text-read}
 use Rattle.sis_volume.proofs.Staged.{leaves_none}
-use Rattle.sis_volume.proofs.Volumes.{covered-used, live_is_image, now_of, one_reading}
+use Rattle.sis_volume.proofs.Volumes.{live_is_image, now_of, one_reading}
 
 -- nothing is loose, so what is mapped isn't
 pub firm-none : (s : State) (at n : ℕ) → s.loose ≡ [] → IsFirm s.loose at n
@@ -35,16 +36,16 @@ pub keeps-stable : (second : Bool) (v : VolumeTable) (s : State) → KeepsText v
 keeps-stable second v s keeps none = record { text = keeps; firm = λ place used. firm-none s (4096 * place) 4096 none }
 
 -- each image of now opens as the committed table's files
-pub opens-committed : (v : VolumeTable) (second : Bool) (held : List Bool) (seen : Seen) (log : v.layout.log ≡ 0) → IsGood v → HasCommitted v second held false seen → OpensTable v seen
-opens-committed v second held seen log good h r told =
+pub opens-committed : (v : VolumeTable) (second : Bool) (bits : List Bool) (seen : Seen) (log : v.layout.log ≡ 0) → IsGood v → HasCommitted v second bits false seen → OpensTable v seen
+opens-committed v second bits seen log good h r told =
     let same : h.committed ≡ v = h.same refl in
     let keeps : KeepsTable second v (state_of r) = subst (λ (c : VolumeTable). KeepsTable second c (state_of r)) same (h.stays r told) in
     let table : IsTable v = subst IsTable same h.table in
     now_of (Shows (OpensAs (files_of v (live_bytes r)))) seen r told (λ m image. kept-opens second v (state_of r) m table log good keeps image)
 
 -- the live bytes hold it
-pub live-committed : (v : VolumeTable) (second : Bool) (held : List Bool) (seen : Seen) → HasCommitted v second held false seen → IfSome (live_of seen) (λ live. Holds live v)
-live-committed v second held seen h = by_cases seen.told refl
+pub live-committed : (v : VolumeTable) (second : Bool) (bits : List Bool) (seen : Seen) → HasCommitted v second bits false seen → IfSome (live_of seen) (λ live. Holds live v)
+live-committed v second bits seen h = by_cases seen.told refl
   where
     keeps : (r : DiskRecord) → seen.told ≡ Some r → Holds (live_bytes r) v
     keeps r told =
@@ -69,10 +70,10 @@ either_opens v c second s files m table log good c_table same keeps opens (inr n
     (sym (files-data v (made_stable s) m table size (λ place used. firm-none (made_stable s) (4096 * place) 4096 refl) (subst (λ (l : Layout). KeepsData l (made_stable s) m) same new.1))))
 
 -- so at every moment of a commit
-pub may_commit : (v : VolumeTable) (l : Layout) (second is_changed : Bool) (held : List Bool) (old new : Seen) → l ≡ v.layout → IsTable v → v.layout.log ≡ 0 → HasCommitted v second held is_changed old
+pub may_commit : (v : VolumeTable) (l : Layout) (second is_changed : Bool) (bits : List Bool) (old new : Seen) → l ≡ v.layout → IsTable v → IsGood v → v.layout.log ≡ 0 → HasCommitted v second bits is_changed old
     → ((r : DiskRecord) (text : List ℕ) → old.told ≡ Some r → KeepsText l second text (state_of r) → Leaves (OldOrNew l text (spelling v) (state_of r)) old new)
     → MayCommit v old new
-may_commit v l second is_changed held old new is table log h images good files opens r told =
+may_commit v l second is_changed bits old new is table good log h images files opens r told =
     let c = h.committed in
     let keeps = h.stays r told in
     let same : c.layout ≡ l = h.layout ∙ sym is in
@@ -87,17 +88,17 @@ pub no_call : (seen : Seen) → OnlyOpens seen seen
 no_call seen files opens = record { told = leaves_none (OpensAs files) seen.told opens }
 
 pub no_commit : (v : VolumeTable) (old : Seen) → MayCommit v old old
-no_commit v old good files opens r told = record { told = leaves_none (λ m. OpensAs files m ⊎ OpensAs (files_of v (live_bytes r)) m) old.told (λ q is m image. inl (opens q is m image)) }
+no_commit v old files opens r told = record { told = leaves_none (λ m. OpensAs files m ⊎ OpensAs (files_of v (live_bytes r)) m) old.told (λ q is m image. inl (opens q is m image)) }
 
 -- at Ok the current table is the committed one
-pub is_committed : (v : VolumeTable) (l : Layout) (second was : Bool) (held : List Bool) (old new : Seen) → l ≡ v.layout → IsTable v → (old.told ≡ None → new.told ≡ None) → HasCommitted v second held was old
+pub is_committed : (v : VolumeTable) (l : Layout) (second was : Bool) (bits : List Bool) (old new : Seen) → l ≡ v.layout → IsTable v → (old.told ≡ None → new.told ≡ None) → HasCommitted v second bits was old
     → ((r : DiskRecord) (text : List ℕ) → old.told ≡ Some r → KeepsText l second text (state_of r) → Now (λ s. KeepsText l (not second) (spelling v) s × (s.loose ≡ [])) new)
     → HasCommitted v (not second) (used_places v) false new
-is_committed v l second was held old new is_l table untold h kept = record {
+is_committed v l second was bits old new is_l table untold h kept = record {
   committed = v;
   table = table;
   layout = refl;
-  covered = covered-used v table;
+  places = refl;
   same = λ e. refl;
   stays = λ q is. by_cases q is old.told refl;
 }
@@ -133,27 +134,29 @@ none_told l second None (Some new) both e = absurd both
 none_told l second (Some old) new both e = absurd cc
 
 -- what a volume keeps then
-pub kept-committed : (v : VolumeTable) (j now : JournalView) (held : List Bool) (was : Bool)
+pub kept-committed : (v : VolumeTable) (j now : JournalView) (p : PlacesView) (was : Bool)
     (down : Option ℕ) (old new : Seen) → now.layout ≡ j.layout → now.second ≡ not j.second
     → new.size ≡ old.size → HasCommitted v (not j.second) (used_places v) false new
-    → IsVolume v j held was down old → IsVolume v now held false down new
-kept-committed v j now held was down old new same other size committed h = record {
+    → IsVolume v j p was down old → IsVolume v now (after_commit p) false down new
+kept-committed v j now p was down old new same other size committed h = record {
   table = h.table;
+  good = h.good;
   fits = h.fits;
   log = h.log;
   journal = same ∙ h.journal;
   size = size ∙ h.size;
   used = h.used;
-  committed = λ up. subst (λ (b : Bool). HasCommitted v b held false new) (sym other)
+  committed = λ up. subst (λ (b : Bool). HasCommitted v b p.current false new) (sym other)
       (subst (λ (xs : List Bool). HasCommitted v (not j.second) xs false new) (sym h.used) committed);
 }
 
 -- what it keeps where the commit failed
-pub kept-down : (v : VolumeTable) (j now : JournalView) (held : List Bool) (was : Bool) (at : ℕ)
+pub kept-down : (v : VolumeTable) (j now : JournalView) (p : PlacesView) (was : Bool) (at : ℕ)
     (down : Option ℕ) (old new : Seen) → now.layout ≡ j.layout → new.size ≡ old.size
-    → IsVolume v j held was down old → IsVolume v now held was (Some at) new
-kept-down v j now held was at down old new same size h = record {
+    → IsVolume v j p was down old → IsVolume v now p was (Some at) new
+kept-down v j now p was at down old new same size h = record {
   table = h.table;
+  good = h.good;
   fits = h.fits;
   log = h.log;
   journal = same ∙ h.journal;
@@ -163,34 +166,40 @@ kept-down v j now held was at down old new same size h = record {
 }
 
 -- where the table wasn't edited
-pub unchanged_committed : (v : VolumeView) (j : JournalView) → v.is_changed ≡ false → v.down ≡ None
-    → IsVolume v.table j v.held v.is_changed v.down v.seen → IsCommitted v v
-unchanged_committed v j same up h = record {
-  same = ap₂ (λ (xs : List Bool) (b : Bool).
-      record v { seen = v.seen; held = xs; is_changed = b }) h.used same;
-  up = up;
-  opens = λ good. opens-committed v.table j.second v.held v.seen h.log good
-      (subst (λ (b : Bool). HasCommitted v.table j.second v.held b v.seen) same (h.committed up));
-}
+pub unchanged_committed : (v : VolumeView) (j : JournalView) (p : PlacesView)
+    → p.committed ≡ v.committed → v.is_changed ≡ false → v.down ≡ None
+    → IsVolume v.table j p v.is_changed v.down v.seen → IsCommitted v v
+unchanged_committed v j p bits same up h =
+    let c = h.committed up in
+    record {
+      same = ap₂ (λ (xs : List Bool) (b : Bool).
+          record v { seen = v.seen; committed = xs; is_changed = b })
+          (sym bits ∙ c.places ∙ ap used_places (c.same same)) same;
+      up = up;
+      opens = opens-committed v.table j.second p.committed v.seen h.log h.good
+          (subst (λ (b : Bool). HasCommitted v.table j.second p.committed b v.seen) same c);
+    }
 
 -- what a volume keeps that was opened
-pub kept-opened : (v : VolumeTable) (j : JournalView) (l : Layout) (held : List Bool) (seen : Seen)
+pub kept-opened : (v : VolumeTable) (j : JournalView) (l : Layout) (p : PlacesView) (seen : Seen)
     → v.layout ≡ l → j.layout ≡ l → l.log ≡ 0 → seen.size ≡ 4096 * l.total
-    → length (spelling v) ≤ table_cap l → IsTable v → held ≡ used_places v
+    → length (spelling v) ≤ table_cap l → IsTable v → IsGood v
+    → p ≡ record { current = used_places v; committed = used_places v }
     → Now (KeepsText l j.second (spelling v)) seen → Now (λ s. s.loose ≡ []) seen
-    → IsVolume v j held false None seen
-kept-opened v j l held seen is is_j log size fits table used keeps stable = record {
+    → IsVolume v j p false None seen
+kept-opened v j l p seen is is_j log size fits table good places keeps stable = record {
   table = table;
+  good = good;
   fits = subst (λ (x : Layout). length (spelling v) ≤ table_cap x) (sym is) fits;
   log = ap (λ (x : Layout). x.log) is ∙ log;
   journal = is_j ∙ sym is;
   size = size ∙ ap (λ (x : Layout). 4096 * x.total) (sym is);
-  used = used;
+  used = ap (λ (x : PlacesView). x.current) places;
   committed = λ up. record {
     committed = v;
     table = table;
     layout = refl;
-    covered = subst (IsCovered v) (sym used) (covered-used v table);
+    places = ap (λ (x : PlacesView). x.committed) places;
     same = λ e. refl;
     stays = λ r told. keeps-stable j.second v (state_of r)
         (subst (λ (x : Layout). KeepsText x j.second (spelling v) (state_of r)) (sym is)

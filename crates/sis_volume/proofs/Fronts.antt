@@ -19,8 +19,8 @@ use Rattle.sis_table.specs.Opens.{OpensAs}
 use Rattle.sis_table.specs.Reading.{table_at}
 use Rattle.sis_table.specs.Spelling.{spelling}
 use Rattle.sis_table.specs.Volume.{VolumeTable, IsTable, is_used}
-use Rattle.sis_table.proofs.ContentLemmas.{files_of-same}
-use Rattle.sis_table.proofs.PutLemmas.{is_used-between}
+use Rattle.sis_table.proofs.CallerLemmas.{files_of-same}
+use Rattle.sis_table.proofs.CallerLemmas.{is_used-between}
 use Rattle.sis_table.proofs.ReadingLaws.{table_at-only}
 use Rattle.sis_volume.specs.Invariant.{KeepsTable}
 use Rattle.sis_volume.proofs.Slices.{slice_same, take_same}
@@ -62,7 +62,7 @@ pub front-image : (l : Layout) (s : State) (m : List ℕ) → IsFirm s.loose 0 (
 front-image l s m firm within size same = take_same s.live m (4096 * first_place l) size within (λ i lt. same i lt (firm i (omega arith) (omega arith)))
 
 -- the files are the same where the data blocks that the table maps are
-pub files-data : (v : VolumeTable) (s : State) (m : List ℕ) → IsTable v → length s.live ≡ 4096 * v.layout.total → ((place : ℕ) → is_used v.nodes place ≡ true → IsFirm s.loose (4096 * place) 4096)
+pub files-data : (v : VolumeTable) (s : State) (m : List ℕ) → IsTable v → length s.live ≡ 4096 * v.layout.total → ((place : ℕ) → is_used v place ≡ true → IsFirm s.loose (4096 * place) 4096)
     → KeepsData v.layout s m → files_of v m ≡ files_of v s.live
 files-data v s m table size firm keeps = files_of-same v s.live m (λ place used.
     let between = is_used-between v place table used in

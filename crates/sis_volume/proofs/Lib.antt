@@ -1,17 +1,19 @@
 mod Applied
-mod Bitmaps
+mod Blockwise
+pub mod CallerLemmas
 mod Committed
-mod Covered
-mod Edited
+mod Counts
+mod Freshness
 pub mod Fronts
 pub mod ImageLaws
 pub mod NewImages
-mod SetBits
+mod Lent
+mod Pieces
 mod Slices
-mod Spared
-mod Spares
 mod Staged
-mod Unheld
 pub mod Stopping
+mod TableBits
+pub mod Taken
 pub mod Volumes
+mod Writes
 mod Written

@@ -9,11 +9,12 @@ use Rattle.sis_disk.specs.Stops.{GoesOn, Leaves, Now, Shows, ShowsAlong}
 use Rattle.sis_disk.proofs.Images.{after_all_append, leaves_none, leaves_trans, leaves_weaker}
 use Rattle.sis_table.specs.Content.{files_in, files_of}
 use Rattle.sis_name.specs.Files.{Files}
-use Rattle.sis_table.specs.Good.{IsGood}
 use Rattle.sis_table.specs.Opens.{OpensAs}
 use Rattle.sis_table.specs.Volume.{VolumeTable}
 use Rattle.sis_model.specs.declared.reply.Hindrance.{Hindrance}
 use Rattle.sis_model.specs.declared.reply.Hindrance.TheVariants as hindrance
+use Rattle.sis_view.proofs.CallerLemmas.{leaves_reading, now_reading}
+use Rattle.sis_volume.specs.Lending.{Looks}
 use Rattle.sis_volume.specs.Room.{HindersRoom}
 use Rattle.sis_volume.specs.Stopping.{HasFiles, IsCommitted, MayCommit, OnlyOpens, OpensNow, OpensTable, StopsWell}
 use Rattle.sis_volume.specs.View.{VolumeView}
@@ -77,10 +78,10 @@ only_first committed current old new leaves =
     leaves
 
 images_committed : (v : VolumeTable) (old new : Seen) (committed current : Files)
-    → MayCommit v old new → IsGood v → IfSome (files_in v old) (λ fs. fs ≡ current)
+    → MayCommit v old new → IfSome (files_in v old) (λ fs. fs ≡ current)
     → OpensNow committed old → (old.told ≡ None → new.told ≡ None)
     → Leaves (Either committed current) old new
-images_committed v old new committed current may good stands opens none = by old.told refl
+images_committed v old new committed current may stands opens none = by old.told refl
   where
     by : (o : Option DiskRecord) → old.told ≡ o → Leaves (Either committed current) old new
     by None is = record {
@@ -90,7 +91,7 @@ images_committed v old new committed current may good stands opens none = by old
     }
     by (Some r) is =
         subst (λ (fs : Files). Leaves (Either committed fs) old new)
-        (files_told v old r current is stands) (may good committed opens r is)
+        (files_told v old r current is stands) (may committed opens r is)
 
 -- ---- steps
 
@@ -117,20 +118,17 @@ stops_commit : (old new : VolumeView) → old.down ≡ None
 stops_commit old new up may files how = record {
   up = λ up committed current has. record {
     images =
-        images_committed old.table old.seen new.seen committed current (may up) has.good has.stands
+        images_committed old.table old.seen new.seen committed current (may up) has.stands
         has.opens (untold old.table new.table old.seen new.seen files);
     last = λ still.
         ⊎_elim
         (λ same. inl (subst (λ (v : VolumeView). OpensNow committed v.seen) (sym same) has.opens))
-        (λ done. inr (opens_table new.table new.seen current (done.opens (good done has.good))
+        (λ done. inr (opens_table new.table new.seen current done.opens
         (subst (λ (o : Option Files). IfSome o (λ fs. fs ≡ current)) (sym files) has.stands)))
         (how still);
   };
   down = λ some. not_down old.down (new.seen ≡ old.seen) up some;
 }
-  where
-    good : IsCommitted old new → IsGood old.table → IsGood new.table
-    good done g = subst IsGood (sym (ap (λ (v : VolumeView). v.table) done.same)) g
 
 -- blocks were written to places that no stop gives back
 stops_stage : (old new : VolumeView) → old.down ≡ None → OnlyOpens old.seen new.seen
@@ -153,7 +151,6 @@ stops_then a b c a_up b_up table files first second = record {
       let one = first.up up committed current has in
       let at : (fs : Files) → OpensNow fs b.seen → HasFiles fs current b =
       λ fs opens. record {
-        good = subst IsGood (sym table) has.good;
         stands =
             subst (λ (o : Option Files). IfSome o (λ x. x ≡ current)) (sym files) has.stands;
         opens = opens;
@@ -250,12 +247,28 @@ stops_staged old mid new up how table files first only =
 
 -- edits were made in memory, or not
 pub stops_applied : {T E : Type 0} (r : Result T E) (old mid new : VolumeView)
-    (table : VolumeTable) (held : List Bool) (is_changed : Bool)
-    → OnOk r (new ≡ record mid { table = table; held = held; is_changed = is_changed })
+    (table : VolumeTable) (is_changed : Bool)
+    → OnOk r (new ≡ record mid { table = table; is_changed = is_changed })
     → OnErr r (new ≡ mid) → StopsWell old mid → StopsWell old new
-stops_applied (Ok x) old mid new table held is_changed ok err stops =
+stops_applied (Ok x) old mid new table is_changed ok err stops =
     stops_seen old mid new (ap (λ (v : VolumeView). v.seen) ok) (ap (λ (v : VolumeView). v.down) ok)
     stops
-stops_applied (Err e) old mid new table held is_changed ok err stops =
+stops_applied (Err e) old mid new table is_changed ok err stops =
     stops_seen old mid new (ap (λ (v : VolumeView). v.seen) err)
     (ap (λ (v : VolumeView). v.down) err) stops
+
+-- blocks were lent, or not
+pub stops_looked : {T E : Type 0} (most : ℕ) (r : Result T E) (old new : VolumeView)
+    → old.down ≡ None → Looks most r old new → StopsWell old new
+stops_looked most r old new up looks =
+    let reads = looks.fetched.reads in
+    record {
+      up = λ up' committed current has. record {
+        images =
+            only_first committed current old.seen new.seen
+            (leaves_reading (OpensAs committed) most old.seen new.seen reads has.opens);
+        last = λ still.
+            inl (now_reading (Shows (OpensAs committed)) most old.seen new.seen reads has.opens);
+      };
+      down = λ some. not_down old.down (new.seen ≡ old.seen) up some;
+    }

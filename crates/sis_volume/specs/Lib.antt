@@ -1,8 +1,8 @@
 pub mod Applying
 pub mod Invariant
 pub mod Keeping
+pub mod Lending
 pub mod Opening
-pub mod Places
 pub mod Room
 pub mod Staging
 pub mod Stopping

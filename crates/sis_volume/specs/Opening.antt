@@ -6,8 +6,8 @@ use Rattle.sis_journal.specs.declared.fault.OpenFault.TheVariants as faults
 use Rattle.sis_table.specs.Good.{first_defect}
 use Rattle.sis_table.specs.Volume.{VolumeTable}
 
--- The fault is the one that reading gives, or the first defect of the table that is read, unless the
--- disk failed or memory ran out.
+-- The fault is the one that reading gives, or the first defect of the table that is read, unless
+-- the disk failed or memory ran out.
 abbrev pub FailsAs : OpenFault → Result VolumeTable ImageFault → Type 0
 FailsAs faults.Disk read = ⊤
 FailsAs faults.Memory read = ⊤

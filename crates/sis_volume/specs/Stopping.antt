@@ -4,7 +4,6 @@ use Rattle.sis_disk.specs.Record.{DiskRecord, Seen, live_bytes}
 use Rattle.sis_disk.specs.Stops.{Leaves, Now, Shows}
 use Rattle.sis_table.specs.Content.{files_in, files_of}
 use Rattle.sis_name.specs.Files.{Files}
-use Rattle.sis_table.specs.Good.{IsGood}
 use Rattle.sis_table.specs.Opens.{OpensAs}
 use Rattle.sis_table.specs.Volume.{VolumeTable, used_places}
 use Rattle.sis_volume.specs.View.{VolumeView}
@@ -25,26 +24,23 @@ OnlyOpens old new = (files : Files) → OpensNow files old → Leaves (OpensAs f
 -- at every moment from old to new they open as before, or as the files that the table had
 abbrev pub MayCommit : VolumeTable → Seen → Seen → Type 0
 MayCommit v old new =
-    IsGood v → (files : Files) → OpensNow files old
-    → (r : DiskRecord) → old.told ≡ Some r
+    (files : Files) → OpensNow files old → (r : DiskRecord) → old.told ≡ Some r
     → Leaves (λ m. OpensAs files m ⊎ OpensAs (files_of v (live_bytes r)) m) old new
 
 -- the table is the committed one, and nothing else changed
 pub record IsCommitted (old new : VolumeView) : Type 0 where
   pub same : new ≡ record old {
     seen = new.seen;
-    held = used_places old.table;
+    committed = used_places old.table;
     is_changed = false;
   }
   pub up : new.down ≡ None
-  pub opens : IsGood new.table → OpensTable new.table new.seen
+  pub opens : OpensTable new.table new.seen
 
 -- ---- what the calls of a step leave
 
--- the table's files go together and are the current ones, and each image of now opens as the
--- committed ones
+-- the table's files are the current ones, and each image of now opens as the committed ones
 pub record HasFiles (committed current : Files) (v : VolumeView) : Type 0 where
-  pub good : IsGood v.table
   pub stands : IfSome (files_in v.table v.seen) (λ files. files ≡ current)
   pub opens : OpensNow committed v.seen
 

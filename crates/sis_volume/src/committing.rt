@@ -65,6 +65,7 @@ impl<D: Disk> Volume<D> {
         }
         match self.journal.commit(&mut self.disk, &self.kept) {
             Ok(()) => {
+                self.places.commit();
                 self.is_changed = false;
                 Ok(())
             }

@@ -1,5 +1,5 @@
 //! Formats a disk as an image without files.
-ghost use Rattle.std.specs.Prelude.{◌≡◌, ◌⊎◌, ◌+◌, ◌*◌, ◌≤◌, [], drop, length, Err, IfErr, IfSome, OnOk};
+ghost use Rattle.std.specs.Prelude.{◌≡◌, ◌⊎◌, ◌+◌, ◌*◌, ◌≤◌, [], drop, length, Err, IfErr, IfSome, OnErr, OnOk};
 ghost use Rattle.std.specs.Option.{option_map};
 ghost use Rattle.sis_disk.specs.Layout.{IsLayout};
 ghost use Rattle.sis_disk.specs.Record.{laid, live_of};
@@ -49,6 +49,10 @@ impl<D: Disk> Volume<D> {
             CausedFormat fault layout (D.seen disk.old) (D.seen disk.new)) }
         ensures memory { result ≡ Err FormatFault.Memory
             → D.seen disk.new ≡ D.seen disk.old }
+
+        // No call that failed is tried again.
+        ensures quiet { OnOk result ((D.seen disk.new).faults ≡ (D.seen disk.old).faults) }
+        ensures once { OnErr result ((D.seen disk.new).faults ≤ (D.seen disk.old).faults + 1) }
 
         ensures elapses { Elapses (D.seen disk.old) (D.seen disk.new) }
         ensures calls { (D.seen disk.new).calls ≤ (D.seen disk.old).calls + 2 }

@@ -1,15 +1,17 @@
 //! A table as the journal keeps it.
-ghost use Rattle.std.specs.Prelude.{◌≡◌, ◌+◌, ◌<◌, ◌≤◌, ◌++◌, length, vec_capacity, Ok, IsErr, IsOk, IfOk, IfErr, OnOk, OnErr};
+ghost use Rattle.std.specs.Prelude.{◌≡◌, ◌+◌, ◌<◌, ◌≤◌, ◌++◌, length, vec_capacity, All, Ok, IsErr, IsOk, IfOk, IfErr, OnOk, OnErr};
 ghost use Rattle.sis_disk.specs.Layout.{IsLayout, table_cap};
 ghost use Rattle.sis_journal.specs.View.{FailsText, IsWithin};
 ghost use Rattle.sis_table.specs.Edits.{MayEditBy, RefusesEdits, edited_by};
+ghost use Rattle.sis_table.specs.Good.{IsGood};
 ghost use Rattle.sis_table.specs.Reading.{table_at};
 ghost use Rattle.sis_table.specs.Spelling.{spelling};
+ghost use Rattle.sis_table.specs.Uses.{ChangesUse, IsDataUse, TakesFresh};
 ghost use Rattle.sis_table.specs.Volume.{IsTable};
 
 use sis_disk::Layout;
 use sis_journal::{Kept, KeptFault};
-use sis_table::{Edit, EditsFault, Table, TableFault};
+use sis_table::{Edit, EditsFault, PlaceUse, Table, TableFault};
 use std::alloc::{AllocError, Global};
 use std::marker::Model;
 
@@ -20,9 +22,13 @@ pub(crate) struct KeptTable {
 }
 
 impl Model for KeptTable {
+    ghost use Rattle.std.specs.Coded.{codes};
+    ghost use Rattle.sis_ranges.specs.contracts.extents.Extents as extents;
     ghost use Rattle.sis_table.specs.Volume.{VolumeTable};
 
     ghost Value = { VolumeTable };
+
+    ghost coded = { Prim.hlevel (codes, extents.the_row.coded) };
 
     ghost view = { λ k. k.table };
 }
@@ -37,14 +43,23 @@ impl KeptTable {
     }
 
     /// Makes all of these edits, or none where memory runs out or the spelling would be longer than
-    /// so many bytes.
-    pub(crate) fn apply_all(&mut self, edits: &[Edit], most: u64) -> Result<(), EditsFault>
+    /// so many bytes. Answers which places became used and free.
+    pub(crate) fn apply_all(
+        &mut self,
+        edits: &[Edit],
+        most: u64,
+    ) -> Result<Vec<PlaceUse>, EditsFault>
         requires { MayEditBy self.old edits.now }
         ensures ok { OnOk result (self.new ≡ edited_by self.old edits.now) }
         ensures err { OnErr result (self.new ≡ self.old) }
         ensures full { most < length (spelling (edited_by self.old edits.now)) → IsErr result }
         ensures cause { IfErr result
             (RefusesEdits (length (spelling (edited_by self.old edits.now))) most) }
+        ensures uses { IfOk result (λ uses. IsGood self.old → TakesFresh self.old edits.now
+            → ChangesUse self.old self.new uses.items) }
+        ensures data_uses { IfOk result (λ uses. All (IsDataUse self.old.layout) uses.items) }
+        ensures good { OnOk result (IsGood self.old → TakesFresh self.old edits.now
+            → IsGood self.new) }
     {
         self.table.apply_all(edits, most)
     }

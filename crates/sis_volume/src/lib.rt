@@ -2,12 +2,13 @@
 #![tactic(auto)]
 
 mod applying;
-mod bitmap;
 mod committing;
+mod data_blocks;
 mod fault;
 mod formatting;
 mod kept_table;
 mod laws;
+mod lending;
 mod opening;
 mod room;
 mod staging;

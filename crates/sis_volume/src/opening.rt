@@ -1,7 +1,7 @@
 //! Opens a disk as a volume: the journal reads it, and the table's files are judged.
 ghost use Rattle.std.specs.Prelude.{◌≡◌, ◌≢◌, None, Ok, false, IfOk, IfErr, IfSome, IsErrOf, OnOk};
 ghost use Rattle.sis_disk.specs.Record.{live_of};
-ghost use Rattle.sis_journal.specs.Opening.{Caused, IsSynced, SyncThenReads};
+ghost use Rattle.sis_journal.specs.Opening.{Caused, CountsFault, IsSynced, SyncThenReads};
 ghost use Rattle.sis_journal.specs.declared.fault.OpenFault.TheVariants as faults;
 ghost use Rattle.sis_table.specs.Good.{IsGood};
 ghost use Rattle.sis_table.specs.Image.{image_at};
@@ -9,12 +9,13 @@ ghost use Rattle.sis_volume.specs.Invariant.{IsVolume};
 ghost use Rattle.sis_volume.specs.Opening.{FailsAs};
 ghost use Rattle.sis_volume.specs.Stopping.{OpensTable};
 
-use crate::bitmap::Bitmap;
+use crate::data_blocks::DataBlocks;
 use crate::kept_table::KeptTable;
 use crate::{Refused, Volume};
 use sis_disk::Disk;
 use sis_journal::{Journal, OpenFault};
 use sis_table::{GoodFault, Table};
+use sis_view::Blocks;
 use std::alloc::Global;
 
 /// Judges whether the table's files go together.
@@ -35,7 +36,7 @@ fn judge(alloc: Global, table: &Table) -> Result<(), OpenFault>
 struct Opened {
     journal: Journal,
     kept: KeptTable,
-    mapped: Bitmap,
+    places: DataBlocks,
 }
 
 /// Reads the image, and judges its table.
@@ -43,23 +44,26 @@ fn read_volume<D: Disk>(alloc: Global, disk: &mut D) -> Result<Opened, OpenFault
     ensures image { IfOk result (λ opened. IfSome (live_of (D.seen disk.old))
         (λ live. image_at live ≡ Ok opened.kept)) }
     ensures good { IfOk result (λ opened. IsGood opened.kept) }
-    ensures kept { IfOk result (λ opened. IsVolume opened.kept opened.journal opened.mapped
+    ensures kept { IfOk result (λ opened. IsVolume opened.kept opened.journal opened.places
         false None (D.seen disk.new)) }
     ensures fault { IfErr result (λ fault. IfSome (live_of (D.seen disk.old))
         (λ live. FailsAs fault (image_at live))) }
     ensures cause { IfErr result
         (λ fault. Caused fault (D.seen disk.old).faults (D.seen disk.new).faults) }
+    ensures quiet { OnOk result ((D.seen disk.new).faults ≡ (D.seen disk.old).faults) }
+    ensures refused_quiet { IfErr result
+        (λ fault. CountsFault fault (D.seen disk.old).faults (D.seen disk.new).faults) }
     ensures reads { SyncThenReads 4 (D.seen disk.old) (D.seen disk.new) }
     ensures synced { (IsErrOf result OpenFault.Disk → ⊥)
         → IsSynced (D.seen disk.old) (D.seen disk.new) }
 {
     let (journal, _, kept) = Journal::open::<D, KeptTable>(alloc, disk)?;
     judge(alloc, &kept.table)?;
-    let mapped = Bitmap::of_table(alloc, &kept.table)?;
+    let places = DataBlocks::of_table(alloc, &kept.table)?;
     Ok(Opened {
         journal,
         kept,
-        mapped,
+        places,
     })
 }
 
@@ -86,6 +90,11 @@ impl<D: Disk> Volume<D> {
         ensures cause { IfErr result
             (λ r. Caused r.fault (D.seen disk).faults (D.seen r.disk).faults) }
 
+        // No call that failed is tried again.
+        ensures quiet { IfOk result (λ v. v.seen.faults ≡ (D.seen disk).faults) }
+        ensures refused_quiet { IfErr result
+            (λ r. CountsFault r.fault (D.seen disk).faults (D.seen r.disk).faults) }
+
         // Either way the disk's first call is a sync, and it is only read then. The sync succeeded,
         // unless the disk failed.
         ensures reads { IfOk result (λ v. SyncThenReads 4 (D.seen disk) v.seen) }
@@ -95,16 +104,23 @@ impl<D: Disk> Volume<D> {
             → IsSynced (D.seen disk) (D.seen r.disk)) }
     {
         let mut disk = disk;
-        match read_volume(alloc, &mut disk) {
-            Ok(opened) => Ok(Volume {
+        let opened = match read_volume(alloc, &mut disk) {
+            Ok(opened) => opened,
+            Err(fault) => return Err(Refused { disk, fault }),
+        };
+        match Blocks::new(alloc, disk) {
+            Ok(disk) => Ok(Volume {
                 disk,
                 journal: opened.journal,
                 kept: opened.kept,
-                mapped: opened.mapped,
+                places: opened.places,
                 is_changed: false,
                 down: None,
             }),
-            Err(fault) => Err(Refused { disk, fault }),
+            Err(refused) => Err(Refused {
+                disk: refused.disk,
+                fault: OpenFault::Memory,
+            }),
         }
     }
 }

@@ -21,7 +21,14 @@ impl<D: Disk> Volume<D> {
     pub fn used(&self) -> u64
         ensures { result ≡ used self.now.table }
     {
-        self.mapped.count()
+        self.places.used()
+    }
+
+    /// How many data blocks neither the current table nor the committed one maps.
+    pub fn spare(&self) -> u64
+        ensures { result ≡ spare self.now }
+    {
+        self.places.spare()
     }
 
     /// The length of the table, in bytes.
@@ -33,14 +40,15 @@ impl<D: Disk> Volume<D> {
 
     /// Makes sure that so many blocks can be staged. Takes no memory.
     ///
-    /// It commits only where too few places are free in both tables, which frees those that the
-    /// committed table alone maps. No edit takes a place back yet, so none is freed so.
-    #[tactic(auto, using(crate::proofs::Spares::used_within))]
+    /// It commits where too few places are free in both tables, which frees those that the committed
+    /// table alone maps.
     pub fn room(&mut self, needed: u64) -> Result<(), Hindrance>
         ensures spare { OnOk result (needed ≤ spare self.new) }
-        // Either nothing changed, or the table was committed; where there is room, nothing did.
+        // Where there is room nothing changes, and else the table is committed.
         ensures enough { self.old.down ≡ None → needed ≤ spare self.old
             → IsOk result × (self.new ≡ self.old) }
+        ensures commits { self.old.down ≡ None → spare self.old < needed
+            → OnOk result (IsCommitted self.old self.new) }
         ensures ok { OnOk result ((self.new ≡ self.old) ⊎ IsCommitted self.old self.new) }
         ensures table { self.new.table ≡ self.old.table }
 
@@ -80,6 +88,9 @@ impl<D: Disk> Volume<D> {
                 total,
             });
         }
-        Ok(())
+        if needed <= self.spare() {
+            return Ok(());
+        }
+        self.commit()
     }
 }

@@ -1,10 +1,10 @@
 //! Edits that are applied together.
-ghost use Rattle.std.specs.Prelude.{◌≡◌, ◌+◌, ◌^◌, ◌<◌, ◌≤◌, [], ◌∷◌, ◌++◌, max, take, OnOk, OnErr};
-ghost use Rattle.sis_table.specs.Runs.{place_end};
+ghost use Rattle.std.specs.Prelude.{◌≡◌, ◌+◌, ◌^◌, ◌<◌, ◌≤◌, [], ◌∷◌, ◌++◌, take, OnOk, OnErr};
 ghost use Rattle.sis_table.specs.Edits.{map_edit};
-ghost use Rattle.sis_volume.specs.View.{EndBefore, map_end};
+ghost use Rattle.sis_volume.specs.Keeping.{IsFront};
 
-use sis_table::{Edit, Run};
+use sis_ranges::Run;
+use sis_table::Edit;
 use std::alloc::{AllocError, Global};
 use std::marker::Model;
 
@@ -12,52 +12,90 @@ use std::marker::Model;
 #[derive(Drop)]
 pub struct Txn {
     edits: Vec<Edit>,
-    from: u64,
 }
 
 impl Model for Txn {
-    ghost use Rattle.sis_volume.specs.View.{EndBefore, TxnView};
+    ghost use Rattle.sis_volume.specs.View.{TxnView};
 
     ghost Value = { TxnView };
 
-    ghost view = { λ t. record { edits = t.edits.items; from = t.from } };
-
-    ghost invariant = { λ t. EndBefore t.from t.edits.items };
+    ghost view = { λ t. record { edits = t.edits.items } };
 }
 
-// Where the places end that an edit maps.
-fn map_end(edit: &Edit) -> u64
-    ensures { result ≡ map_end edit.now }
+/// What edits map of neighbouring places, from the first one on.
+#[derive(Clone, Copy)]
+pub(crate) enum Front {
+    /// All places up to before this one.
+    Mapped { end: u64 },
+    /// None of so many.
+    Free { count: u64 },
+}
+
+// What one edit maps of them.
+fn front_of(edit: &Edit, place: u64, count: u64) -> Front
+    requires some { 1 ≤ count }
+    requires end { place + count < 2 ^ 64 }
+    ensures { IsFront (edit.now ∷ []) place count result }
 {
     match edit {
-        Edit::Map { count, place, .. } => place.saturating_add(*count),
-        Edit::Make { .. } | Edit::Size { .. } => 0,
+        Edit::Map {
+            count: mapped,
+            place: at,
+            ..
+        } => {
+            if *at > place {
+                return Front::Free {
+                    count: count.min(*at - place),
+                };
+            }
+            if place - *at < *mapped {
+                return Front::Mapped {
+                    end: at.saturating_add(*mapped),
+                };
+            }
+            Front::Free { count }
+        }
+        Edit::Make { .. }
+        | Edit::Drop { .. }
+        | Edit::Rename { .. }
+        | Edit::Size { .. }
+        | Edit::Unmap { .. }
+        | Edit::Version { .. } => Front::Free { count },
     }
+}
+
+// What edits map of them.
+fn front_in(edits: &[Edit], place: u64, count: u64) -> Front
+    requires some { 1 ≤ count }
+    requires end { place + count < 2 ^ 64 }
+    ensures { IsFront edits.now place count result }
+{
+    let mut free = count;
+    for edit in edits {
+        match front_of(edit, place, free) {
+            Front::Mapped { end } => return Front::Mapped { end },
+            Front::Free { count } => free = count,
+        }
+    }
+    Front::Free { count: free }
 }
 
 impl Txn {
     /// A transaction without edits. Takes no memory.
     pub fn begin(alloc: Global) -> Txn
-        ensures { result ≡ record { edits = []; from = 0 } }
+        ensures { result ≡ record { edits = [] } }
     {
         Txn {
             edits: Vec::new(alloc),
-            from: 0,
         }
     }
 
-    /// Adds an edit behind the others. Places that it maps, and those before them, aren't given out
-    /// any more.
+    /// Adds an edit behind the others.
     pub fn push(&mut self, edit: Edit) -> Result<(), AllocError>
-        ensures ok { OnOk result (self.new ≡ record {
-          edits = self.old.edits ++ edit ∷ [];
-          from = max self.old.from (map_end edit);
-        }) }
+        ensures ok { OnOk result (self.new ≡ record { edits = self.old.edits ++ edit ∷ [] }) }
         ensures err { OnErr result (self.new ≡ self.old) }
     {
-        let end = map_end(&edit);
         self.edits.push(edit)?;
-        self.from = self.from.max(end);
         Ok(())
     }
 
@@ -68,40 +106,33 @@ impl Txn {
         &self.edits
     }
 
-    /// The place from which on free places are still to be given out.
-    pub(crate) fn from(&self) -> u64
-        ensures from { result ≡ self.now.from }
-        ensures before { EndBefore self.now.from self.now.edits }
+    /// What the edits map of so many places, from the first one on.
+    pub(crate) fn front(&self, place: u64, count: u64) -> Front
+        requires some { 1 ≤ count }
+        requires end { place + count < 2 ^ 64 }
+        ensures { IsFront self.now.edits place count result }
     {
-        self.from
+        front_in(&self.edits, place, count)
     }
 
-    /// Maps a run of a file's blocks. The places behind it are given out next.
+    /// Maps a run of a file's blocks.
     pub(crate) fn map(&mut self, file: u64, run: Run) -> Result<(), AllocError>
-        requires end { place_end run < 2 ^ 64 }
-        requires behind { self.old.from ≤ run.place }
-        ensures ok { OnOk result (self.new ≡ record {
-          edits = self.old.edits ++ map_edit file run ∷ [];
-          from = place_end run;
-        }) }
+        ensures ok { OnOk result (self.new
+            ≡ record { edits = self.old.edits ++ map_edit file run ∷ [] }) }
         ensures err { OnErr result (self.new ≡ self.old) }
     {
-        self.edits.push(Edit::Map {
+        self.push(Edit::Map {
             id: file,
             first: run.first,
             count: run.count,
             place: run.place,
-        })?;
-        self.from = run.place + run.count;
-        Ok(())
+        })
     }
 
     /// Drops the edits behind the first `count`.
-    pub(crate) fn cut(&mut self, count: usize, from: u64)
-        requires { EndBefore from (take count self.old.edits) }
-        ensures { self.new ≡ record { edits = take count self.old.edits; from = from } }
+    pub(crate) fn cut(&mut self, count: usize)
+        ensures { self.new ≡ record { edits = take count self.old.edits } }
     {
         self.edits.truncate(count);
-        self.from = from;
     }
 }

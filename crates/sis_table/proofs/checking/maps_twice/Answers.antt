@@ -1,7 +1,7 @@
 use Rattle.std.proofs.Common.{◌≤◌, length, get_or, sym, ◌∙◌, arith}
 use Rattle.std.proofs.lemmas.List.{get_or_default}
-use Rattle.sis_table.specs.Runs.{place_end}
-use Rattle.sis_table.specs.declared.runs.Run.{Run}
+use Rattle.sis_ranges.specs.Extents.{place_end}
+use Rattle.sis_ranges.specs.declared.run.Run.{Run}
 use Rattle.sis_table.proofs.GoodLemmas.{scan_hit, scan_more, scan_all}
 use Rattle.sis_table.proofs.checking.maps_twice.Goals as goal
 

@@ -1,6 +1,6 @@
 use Rattle.std.proofs.Common.{◌+◌, ◌<◌, ◌^◌, None, arith}
 use Rattle.std.proofs.lemmas.Result.{err_from_is_err_and}
-use Rattle.sis_table.specs.declared.runs.Run.{Run}
+use Rattle.sis_ranges.specs.declared.run.Run.{Run}
 use Rattle.sis_table.specs.Reading.{runs_at}
 use Rattle.sis_table.proofs.ReadingLoops.{run_read, run_fails, runs_read, small_next}
 use Rattle.sis_table.proofs.reading.run_list.Goals as goal

@@ -1,17 +1,22 @@
-use Rattle.std.proofs.Common.{sym, ap, ◌∙◌, subst}
+use Rattle.std.proofs.Common.{Bool, List, sym, ap, ◌∙◌, subst}
 use Rattle.std.specs.Prelude.{Result, Ok}
 use Rattle.sis_disk.specs.Record.{live_of}
 use Rattle.sis_disk.specs.Superblock.{ImageFault}
-use Rattle.sis_journal.specs.Opening.{FailsAs as FailsReading}
+use Rattle.sis_journal.specs.Opening.{FailsReading}
 use Rattle.sis_journal.specs.declared.fault.OpenFault.{OpenFault}
 use Rattle.sis_journal.specs.declared.fault.OpenFault.TheVariants as faults
 use Rattle.sis_journal.proofs.Readings.{if_some, passed_on}
+use Rattle.sis_places.specs.Places.{PlacesView}
+use Rattle.sis_table.specs.Good.{IsGood}
 use Rattle.sis_table.specs.Image.{image_at}
 use Rattle.sis_table.specs.Volume.{VolumeTable, IsTable, used_places}
 use Rattle.sis_volume.specs.Opening.{FailsAs}
 use Rattle.sis_volume.specs.Tables.{read-layout}
 use Rattle.sis_volume.proofs.Committed.{kept-opened}
 use Rattle.sis_volume.proofs.opening.read_volume.Goals as goal
+
+abbrev both_of : List Bool → PlacesView
+both_of bits = record { current = bits; committed = bits }
 
 -- a fault of reading the table
 fails_too : (fault : OpenFault) (read : Result VolumeTable ImageFault) → FailsReading fault read → FailsAs fault read
@@ -34,7 +39,13 @@ pub returns-clause-kept : goal.returns-clause-kept
 returns-clause-kept g c =
     let read = c.in_ok-journal.ensures.read in
     let layout = c.in_ok-journal.ensures.layout in
-    let places = c.in_ok-mapped.ensures.places ∙ ap used_places c.kept.view_is in
-    kept-opened c.in_ok-journal.kept c.in_ok-journal.journal c.in_ok-journal.field-0-1 c.in_ok-mapped.mapped (g.D.Disk.seen c.open.new.disk)
-    (read-layout c.in_ok-journal.field-0-1 read.0 c.in_ok-journal.kept read.1) layout.0 layout.2 layout.3 read.2 (subst (λ (v : VolumeTable). IsTable v) c.kept.view_is c.of_table.ensures.table) places
+    let places = c.in_ok-places.ensures.places ∙ ap (λ (v : VolumeTable). both_of (used_places v)) c.kept.view_is in
+    kept-opened c.in_ok-journal.kept c.in_ok-journal.journal c.in_ok-journal.field-0-1 c.in_ok-places.places (g.D.Disk.seen c.open.new.disk)
+    (read-layout c.in_ok-journal.field-0-1 read.0 c.in_ok-journal.kept read.1) layout.0 layout.2 layout.3 read.2
+    (subst (λ (v : VolumeTable). IsTable v) c.kept.view_is c.of_table.ensures.table)
+    (subst (λ (v : VolumeTable). IsGood v) c.kept.view_is c.in_ok-judge.ensures.good) places
     c.in_ok-journal.ensures.kept c.in_ok-journal.ensures.stable
+
+pub returns-clause-good : goal.returns-clause-good
+returns-clause-good g c =
+    subst (λ (v : VolumeTable). IsGood v) c.kept.view_is c.in_ok-judge.ensures.good

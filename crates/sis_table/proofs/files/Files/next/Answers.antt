@@ -16,7 +16,7 @@ returns-in_err-id c = λ v same.
       | in-None w ↦ rw (w.start-is, w.in-None.is) refl
       | in-Some w ↦ rw (w.start-is, w.in-Some.is) refl
     ] in
-    let indexed : AreIndexed v.nodes c.self.inside.names = subst (λ (nodes : List Node). AreIndexed nodes c.self.inside.names) (c.self.view_is ∙ sym same) c.self.invariant in
+    let indexed : AreIndexed v.nodes c.self.inside.names = subst (λ (nodes : List Node). AreIndexed nodes c.self.inside.names) (c.self.view_is ∙ sym same) c.self.invariant.indexed in
     rw c.from_residual.ensures
     (next_none v c.self.inside.names (option_copied c.args.after) indexed.index c.range.ensures.ordered
     (sym (ap (λ b. entries_between name_cmp b Unbounded c.self.inside.names.entries) start) ∙ sym (c.range.ensures.between tt) ∙ c.in_err-id.ensures.steps.0))
@@ -27,7 +27,7 @@ returns c = λ v same.
       | in-None w ↦ rw (w.start-is, w.in-None.is) refl
       | in-Some w ↦ rw (w.start-is, w.in-Some.is) refl
     ] in
-    let indexed : AreIndexed v.nodes c.self.inside.names = subst (λ (nodes : List Node). AreIndexed nodes c.self.inside.names) (c.self.view_is ∙ sym same) c.self.invariant in
+    let indexed : AreIndexed v.nodes c.self.inside.names = subst (λ (nodes : List Node). AreIndexed nodes c.self.inside.names) (c.self.view_is ∙ sym same) c.self.invariant.indexed in
     let first = subst (λ (es : List (List ℕ × ℕ)). IfSome (slice_get es 0) (IsEntryInRange name_cmp (bound_map (λ x. x.now) c.match-after.start) Unbounded c.self.inside.names)) c.in_ok-id.ensures.steps (c.range.ensures.in_range tt).1 in
     next_some v c.self.inside.names (option_copied c.args.after) _ _ _ indexed c.range.ensures.ordered
     (sym (ap (λ b. entries_between name_cmp b Unbounded c.self.inside.names.entries) start) ∙ sym (c.range.ensures.between tt) ∙ c.in_ok-id.ensures.steps) first.1

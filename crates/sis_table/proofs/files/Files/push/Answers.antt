@@ -1,17 +1,28 @@
-use Rattle.std.proofs.Common.{◌≡◌, ℕ, List, [], ◌∷◌, ◌++◌, Some, sym, subst, arith}
-use Rattle.std.proofs.lemmas.Grind.{common_steps}
+use Rattle.std.proofs.Common.{◌++◌, [], ◌∷◌, List, ℕ, Some, subst}
 use Rattle.std.specs.BTreeMap as tree
 use Rattle.sis_name.specs.Units.{name_cmp}
-use Rattle.sis_table.specs.Index.{AreIndexed}
-use Rattle.sis_table.specs.declared.node.Node.{Node}
-use Rattle.sis_table.proofs.FileLemmas.{indexed_push}
+use Rattle.sis_table.proofs.KeptLemmas.{Keeps, keeps_pushed, keeps_back}
 use Rattle.sis_table.proofs.files.Files.push.Goals as goal
+use Rattle.sis_table.proofs.files.Files.push.Goals.{In-Ok}
 
-pub invariant_of-self-2 : goal.invariant_of-self-2
-invariant_of-self-2 c =
-    let grown : c.push.new.self.items ≡ c.self.inside.nodes.items ++ c.args.node ∷ [] = grind (arith, common_steps) in
-    subst (λ (nodes : List Node). AreIndexed nodes c.insert.new.self) (sym grown)
-    (indexed_push c.self.inside.names c.insert.new.self c.self.inside.nodes.items c.args.node c.self.invariant
-    (rw c.self.view_is c.requires.rises)
-    (rw c.self.view_is c.requires.free)
-    (subst (λ (name : List ℕ). tree.Updates name_cmp c.self.inside.names c.insert.new.self name (Some c.args.node.id)) c.in_ok-name.ensures.ok c.in_ok-insert.ensures.updates))
+pushed : (c : In-Ok) → Keeps c.insert.new.self c.insert-2.new.self (c.args.self.now ++ c.args.node ∷ [])
+pushed c =
+    keeps_pushed c.self.inside.nodes c.insert.new.self c.self.inside.names c.insert-2.new.self c.args.self.now c.args.node c.self.view_is c.self.invariant c.requires.rises
+    c.in_ok-insert.ensures.entries c.requires.free
+    (subst (λ (name : List ℕ). tree.Updates name_cmp c.self.inside.names c.insert-2.new.self name (Some c.args.node.id)) c.in_ok-name.ensures.ok c.in-Ok.ensures.updates)
+
+pub invariant_of-self-in-Ok : goal.invariant_of-self-in-Ok
+invariant_of-self-in-Ok c = (pushed c).kept
+
+pub invariant_of-self-in-Err : goal.invariant_of-self-in-Err
+invariant_of-self-in-Err c =
+    (keeps_back c.self.inside.nodes c.insert.new.self c.self.inside.names c.insert-2.new.self c.args.self.now c.args.node c.self.view_is c.self.invariant c.requires.rises
+    c.in_ok-insert.ensures.entries c.remove.new.self c.remove.ensures.entries c.in-Err.ensures.err).kept
+
+pub returns-in-Err-clause-err : goal.returns-in-Err-clause-err
+returns-in-Err-clause-err c =
+    (keeps_back c.self.inside.nodes c.insert.new.self c.self.inside.names c.insert-2.new.self c.args.self.now c.args.node c.self.view_is c.self.invariant c.requires.rises
+    c.in_ok-insert.ensures.entries c.remove.new.self c.remove.ensures.entries c.in-Err.ensures.err).is
+
+pub returns-clause-ok : goal.returns-clause-ok
+returns-clause-ok c = (pushed c).is

@@ -1,8 +1,10 @@
-use Rattle.std.proofs.Common.{◌≡◌, Bool, drop, false, not, List, sym, ap, subst}
+use Rattle.std.proofs.Common.{◌≡◌, Bool, List, not, refl, sym, ap, ◌∙◌, subst}
+use Rattle.std.specs.Prelude.{drop, false}
 use Rattle.std.specs.Option.{option_map}
 use Rattle.sis_disk.specs.declared.layout.Layout.{Layout}
 use Rattle.sis_disk.specs.Layout.{first_byte}
 use Rattle.sis_disk.specs.Record.{live_of}
+use Rattle.sis_places.specs.Places.{PlacesView}
 use Rattle.sis_table.specs.Volume.{used_places}
 use Rattle.sis_volume.specs.Stopping.{IsCommitted, MayCommit}
 use Rattle.sis_volume.specs.View.{VolumeView}
@@ -12,37 +14,39 @@ use Rattle.sis_volume.proofs.volume.Volume.commit.Goals as goal
 pub returns-then-not-self-clause-ok : goal.returns-then-not-self-clause-ok
 returns-then-not-self-clause-ok g c =
     subst (λ (v : VolumeView). IsCommitted v v) c.self.view_is
-    (unchanged_committed _ c.self.inside.journal c.if-not-self.true c.in_default.is c.self.invariant)
+    (unchanged_committed _ c.self.inside.journal c.self.inside.places refl c.if-not-self.true c.in_default.is c.self.invariant)
 
 pub invariant_of-self : goal.invariant_of-self
 invariant_of-self g c =
-    let now = is_committed c.self.inside.kept c.self.inside.journal.layout c.self.inside.journal.second c.self.inside.is_changed c.self.inside.mapped (g.D.Disk.seen c.self.inside.disk) (g.D.Disk.seen c.commit.new.disk)
+    let now = is_committed c.self.inside.kept c.self.inside.journal.layout c.self.inside.journal.second c.self.inside.is_changed c.self.inside.places.committed (g.D.Disk.seen c.self.inside.disk) (g.D.Disk.seen c.commit.new.disk)
     c.self.invariant.journal c.self.invariant.table (none_told c.self.inside.journal.layout c.self.inside.journal.second (g.D.Disk.seen c.self.inside.disk).told (g.D.Disk.seen c.commit.new.disk).told c.commit.ensures.rest)
     (c.self.invariant.committed c.in_default.is) c.in-Ok.ensures.kept in
-    kept-committed c.self.inside.kept c.self.inside.journal c.commit.new.self c.self.inside.mapped c.self.inside.is_changed c.self.inside.down (g.D.Disk.seen c.self.inside.disk) (g.D.Disk.seen c.commit.new.disk)
-    c.commit.ensures.layout c.in-Ok.ensures.ok c.commit.ensures.elapses.size now c.self.invariant
+    rw c.commit-in-Ok.ensures
+    (kept-committed c.self.inside.kept c.self.inside.journal c.commit.new.self c.self.inside.places c.self.inside.is_changed c.self.inside.down (g.D.Disk.seen c.self.inside.disk) (g.D.Disk.seen c.commit.new.disk)
+    c.commit.ensures.layout c.in-Ok.ensures.ok c.commit.ensures.elapses.size now c.self.invariant)
 
 pub returns-in-Ok-clause-ok : goal.returns-in-Ok-clause-ok
 returns-in-Ok-clause-ok g c =
-    let now = is_committed c.self.inside.kept c.self.inside.journal.layout c.self.inside.journal.second c.self.inside.is_changed c.self.inside.mapped (g.D.Disk.seen c.self.inside.disk) (g.D.Disk.seen c.commit.new.disk)
+    let now = is_committed c.self.inside.kept c.self.inside.journal.layout c.self.inside.journal.second c.self.inside.is_changed c.self.inside.places.committed (g.D.Disk.seen c.self.inside.disk) (g.D.Disk.seen c.commit.new.disk)
     c.self.invariant.journal c.self.invariant.table (none_told c.self.inside.journal.layout c.self.inside.journal.second (g.D.Disk.seen c.self.inside.disk).told (g.D.Disk.seen c.commit.new.disk).told c.commit.ensures.rest)
     (c.self.invariant.committed c.in_default.is) c.in-Ok.ensures.kept in
-    let bits : c.self.inside.mapped ≡ used_places c.self.inside.kept = c.self.invariant.used in
+    let bits : c.commit-in-Ok.new.self.committed ≡ used_places c.self.inside.kept
+    = ap (λ (p : PlacesView). p.committed) c.commit-in-Ok.ensures ∙ c.self.invariant.used in
     subst (λ (v : VolumeView). IsCommitted v (record {
       seen = g.D.Disk.seen c.commit.new.disk;
       table = c.self.inside.kept;
-      held = c.self.inside.mapped;
+      committed = c.commit-in-Ok.new.self.committed;
       is_changed = false;
       down = c.self.inside.down;
     })) c.self.view_is (record {
-      same = ap (λ (xs : List Bool). record { seen = g.D.Disk.seen c.commit.new.disk; table = c.self.inside.kept; held = xs; is_changed = false; down = c.self.inside.down }) bits;
+      same = ap (λ (xs : List Bool). record { seen = g.D.Disk.seen c.commit.new.disk; table = c.self.inside.kept; committed = xs; is_changed = false; down = c.self.inside.down }) bits;
       up = c.in_default.is;
-      opens = λ good. opens-committed c.self.inside.kept (not c.self.inside.journal.second) (used_places c.self.inside.kept) (g.D.Disk.seen c.commit.new.disk) c.self.invariant.log good now;
+      opens = opens-committed c.self.inside.kept (not c.self.inside.journal.second) (used_places c.self.inside.kept) (g.D.Disk.seen c.commit.new.disk) c.self.invariant.log c.self.invariant.good now;
     })
 
 pub returns-in-Ok-clause-holds : goal.returns-in-Ok-clause-holds
 returns-in-Ok-clause-holds g c =
-    let now = is_committed c.self.inside.kept c.self.inside.journal.layout c.self.inside.journal.second c.self.inside.is_changed c.self.inside.mapped (g.D.Disk.seen c.self.inside.disk) (g.D.Disk.seen c.commit.new.disk)
+    let now = is_committed c.self.inside.kept c.self.inside.journal.layout c.self.inside.journal.second c.self.inside.is_changed c.self.inside.places.committed (g.D.Disk.seen c.self.inside.disk) (g.D.Disk.seen c.commit.new.disk)
     c.self.invariant.journal c.self.invariant.table (none_told c.self.inside.journal.layout c.self.inside.journal.second (g.D.Disk.seen c.self.inside.disk).told (g.D.Disk.seen c.commit.new.disk).told c.commit.ensures.rest)
     (c.self.invariant.committed c.in_default.is) c.in-Ok.ensures.kept in
     live-committed c.self.inside.kept (not c.self.inside.journal.second) (used_places c.self.inside.kept) (g.D.Disk.seen c.commit.new.disk) now
@@ -50,8 +54,8 @@ returns-in-Ok-clause-holds g c =
 pub returns-in-Ok-clause-images : goal.returns-in-Ok-clause-images
 returns-in-Ok-clause-images g c = λ up.
     subst (λ (v : VolumeView). MayCommit v.table v.seen (g.D.Disk.seen c.commit.new.disk)) c.self.view_is
-    (may_commit c.self.inside.kept c.self.inside.journal.layout c.self.inside.journal.second c.self.inside.is_changed c.self.inside.mapped (g.D.Disk.seen c.self.inside.disk) (g.D.Disk.seen c.commit.new.disk)
-    c.self.invariant.journal c.self.invariant.table c.self.invariant.log (c.self.invariant.committed c.in_default.is) c.commit.ensures.images)
+    (may_commit c.self.inside.kept c.self.inside.journal.layout c.self.inside.journal.second c.self.inside.is_changed c.self.inside.places.committed (g.D.Disk.seen c.self.inside.disk) (g.D.Disk.seen c.commit.new.disk)
+    c.self.invariant.journal c.self.invariant.table c.self.invariant.good c.self.invariant.log (c.self.invariant.committed c.in_default.is) c.commit.ensures.images)
 
 pub returns-in-Ok-clause-files : goal.returns-in-Ok-clause-files
 returns-in-Ok-clause-files g c =
@@ -61,8 +65,8 @@ returns-in-Ok-clause-files g c =
 pub returns-in-Err-Down-clause-images : goal.returns-in-Err-Down-clause-images
 returns-in-Err-Down-clause-images g c = λ up.
     subst (λ (v : VolumeView). MayCommit v.table v.seen (g.D.Disk.seen c.commit.new.disk)) c.self.view_is
-    (may_commit c.self.inside.kept c.self.inside.journal.layout c.self.inside.journal.second c.self.inside.is_changed c.self.inside.mapped (g.D.Disk.seen c.self.inside.disk) (g.D.Disk.seen c.commit.new.disk)
-    c.self.invariant.journal c.self.invariant.table c.self.invariant.log (c.self.invariant.committed c.in_default.is) c.commit.ensures.images)
+    (may_commit c.self.inside.kept c.self.inside.journal.layout c.self.inside.journal.second c.self.inside.is_changed c.self.inside.places.committed (g.D.Disk.seen c.self.inside.disk) (g.D.Disk.seen c.commit.new.disk)
+    c.self.invariant.journal c.self.invariant.table c.self.invariant.good c.self.invariant.log (c.self.invariant.committed c.in_default.is) c.commit.ensures.images)
 
 pub returns-in-Err-Down-clause-files : goal.returns-in-Err-Down-clause-files
 returns-in-Err-Down-clause-files g c =

@@ -1,8 +1,10 @@
-use Rattle.std.proofs.Common.{refl}
+use Rattle.std.proofs.Common.{refl, subst, sym}
+use Rattle.sis_volume.specs.Stopping.{OpensTable}
 use Rattle.sis_volume.proofs.Committed.{opens-committed}
 use Rattle.sis_volume.proofs.volume.Volume.open.Goals as goal
 
-pub returns-in-Ok-clause-opens : goal.returns-in-Ok-clause-opens
-returns-in-Ok-clause-opens g c =
+pub returns-in-Ok-new-clause-opens : goal.returns-in-Ok-new-clause-opens
+returns-in-Ok-new-clause-opens g c =
     let kept = c.in-Ok.ensures.kept in
-    opens-committed c.in-Ok.opened.kept c.in-Ok.opened.journal.second c.in-Ok.opened.mapped (g.D.Disk.seen c.read_volume.new.disk) kept.log c.in-Ok.ensures.good (kept.committed refl)
+    subst (λ (d : g.row.D.Denot). OpensTable c.in-Ok.opened.kept (g.D.Disk.seen d)) (sym c.in-Ok-new.ensures.ok)
+    (opens-committed c.in-Ok.opened.kept c.in-Ok.opened.journal.second c.in-Ok.opened.places.committed (g.D.Disk.seen c.read_volume.new.disk) kept.log c.in-Ok.ensures.good (kept.committed refl))
