@@ -1,0 +1,563 @@
+-- Reading a file part by part.
+use Rattle.std.proofs.Common.{◌≡◌, inl, inr, ℕ, ◌+◌, ◌-◌, ◌*◌, ◌/◌, ◌%◌, ◌<◌, ◌≤◌, Bool, true, false, List, [], ◌++◌, length, take, drop, replicate, Option, None, Some, refl, sym, ap, ap₂, ◌∙◌, subst, arith, append_assoc, append-nil, length-append, length-drop}
+use Rattle.std.specs.Prelude.{IfErr, IfSome, Err, Result, ◌==◌, min, max, nat_lt, slice_range}
+use Rattle.std.proofs.Math.Seq.{take-append-add}
+use Rattle.std.proofs.lemmas.Bool.{cases_lt}
+use Rattle.std.proofs.lemmas.Bool.Decides.{nat_tests}
+use Rattle.std.proofs.lemmas.List.{length-replicate, length-take-le, take-append-le, take-replicate, take_all, take-take}
+use Rattle.sis_disk.specs.Record.{Seen, live_of}
+use Rattle.sis_model.specs.World.{resized}
+use Rattle.sis_model.specs.declared.reply.Hindrance.{Hindrance}
+use Rattle.sis_model.specs.declared.reply.Hindrance.TheVariants as hindrance
+use Rattle.sis_table.specs.Content.{content_of}
+use Rattle.sis_table.specs.Edits.{IfThere}
+use Rattle.sis_table.specs.Kinds.{plain_node}
+use Rattle.sis_table.specs.Volume.{VolumeTable, IsTable, blocks_of, node_with}
+use Rattle.sis_table.specs.declared.node.Node.{Node}
+use Rattle.sis_table.proofs.ContentLemmas.{slice_range-join}
+use Rattle.sis_view.specs.Reading.{OnlyReads}
+use Rattle.sis_view.specs.declared.piece.Piece.{Piece}
+use Rattle.sis_view.specs.declared.piece.Piece.TheVariants as piece
+use Rattle.sis_table.specs.Opens.{OpensAs}
+use Rattle.sis_view.proofs.CallerLemmas.{leaves_reading, reads_none, reads_then}
+use Rattle.sis_volume.specs.Lending.{IsPiece, piece_bytes, piece_len}
+use Rattle.sis_volume.specs.Stopping.{StopsWell}
+use Rattle.sis_volume.specs.View.{VolumeView}
+use Rattle.sis_volume.proofs.Stopping.{stops_none}
+use Rattle.sis_copyclose.specs.Calls.{one_if, stands_before, stands_behind}
+use Rattle.sis_copyclose.specs.Inside.{AddsBytes, AddsOld, AddsPart, Works}
+use Rattle.sis_copyclose.specs.Reading.{Appends, HindersReading, OnlyLooks, reads_between, reads_in, read_end}
+use Rattle.sis_model.specs.declared.range.ByteRange.{ByteRange}
+use Rattle.sis_copyclose.proofs.Operations.{answered_down, never_down}
+use Rattle.sis_copyclose.proofs.FileBytes.{found_by, long, there_has, there_is, there_map}
+use Rattle.sis_copyclose.proofs.Works.{stops_then, works_reads}
+
+-- ---- stretches of bytes
+
+-- the front of one
+slice_front : (xs : List ℕ) (a n m : ℕ) → n ≤ m
+    → take n (slice_range xs a (a + m)) ≡ slice_range xs a (a + n)
+slice_front xs a n m le =
+    let m_is : a + m - a ≡ m = omega arith in
+    let n_is : a + n - a ≡ n = omega arith in
+    ap (λ (k : ℕ). take n (take k (drop a xs))) m_is
+    ∙ take-take n m (drop a xs) le
+    ∙ sym (ap (λ (k : ℕ). take k (drop a xs)) n_is)
+
+some_both : (o : Option (List ℕ)) (P Q R : List ℕ → Type 0) → ((m : List ℕ) → P m → Q m → R m)
+    → IfSome o P → IfSome o Q → IfSome o R
+some_both None P Q R f p q = tt
+some_both (Some m) P Q R f p q = f m p q
+
+some_map : (o : Option (List ℕ)) (P Q : List ℕ → Type 0) → ((m : List ℕ) → P m → Q m)
+    → IfSome o P → IfSome o Q
+some_map None P Q f p = tt
+some_map (Some m) P Q f p = f m p
+
+-- ---- bytes behind bytes
+
+module _ (v : VolumeTable) (n : Node) (live : Option (List ℕ)) where
+  adds_none : (at : ℕ) (out : List ℕ) → AddsBytes v n at at live out out
+  adds_none at out = record {
+    bytes = [];
+    added = sym (append-nil out);
+    size = omega arith;
+    told = none live;
+  }
+    where
+      none : (o : Option (List ℕ)) → IfSome o (λ now. [] ≡ slice_range (content_of v now n) at at)
+      none None = tt
+      none (Some m) = (let e : 0 ≡ at - at = omega arith in ap (λ (k : ℕ). take k (drop at (content_of v m n))) e)
+
+  adds_then : (a b c : ℕ) (x y z : List ℕ) → a ≤ b → b ≤ c → AddsBytes v n a b live x y
+      → AddsBytes v n b c live y z → AddsBytes v n a c live x z
+  adds_then a b c x y z one two first second = record {
+    bytes = first.bytes ++ second.bytes;
+    added =
+        second.added ∙ ap (λ (ys : List ℕ). ys ++ second.bytes) first.added
+        ∙ append_assoc x first.bytes second.bytes;
+    size = omega (arith, first.size, second.size, one, two, length-append first.bytes second.bytes);
+    told =
+        some_both live _ _ _ (λ m p q. ap₂ (λ (ys zs : List ℕ). ys ++ zs) p q ∙ slice_range-join (content_of v m n) a b c one two)
+        first.told second.told;
+  }
+
+  -- up to another end that comes to the same
+  adds_until : (at next end : ℕ) (x y : List ℕ) → next - at ≡ end - at → AddsBytes v n at next live x y
+      → AddsBytes v n at end live x y
+  adds_until at next end x y same adds = record {
+    bytes = adds.bytes;
+    added = adds.added;
+    size = adds.size ∙ same;
+    told =
+        some_map live _ _ (λ m p. p ∙ ap (λ (k : ℕ). take k (drop at (content_of v m n))) same)
+        adds.told;
+  }
+
+-- ---- one part
+
+piece_some : (n : Node) (at : ℕ) (lent : Piece) → IsPiece n at lent → 1 ≤ piece_len lent
+piece_some n at (piece.Bytes bytes) is = is.some
+piece_some n at (piece.Zeros count) is = is.some
+
+-- a piece that doesn't end with the file ends with a block
+piece_ends : (n : Node) (at : ℕ) (lent : Piece) → IsPiece n at lent → at + piece_len lent < n.size
+    → (at + piece_len lent) % 4096 ≡ 0
+piece_ends n at (piece.Bytes bytes) is more = let ends = is.ends in omega arith
+piece_ends n at (piece.Zeros count) is more = (is.ends more).0
+
+piece_long : (lent : Piece) → length (piece_bytes lent) ≡ piece_len lent
+piece_long (piece.Bytes bytes) = refl
+piece_long (piece.Zeros count) = length-replicate {A = ℕ} count 0
+
+-- the front of a piece
+pub adds_piece : (v : VolumeTable) (n : Node) (at most count : ℕ) (lent : Piece)
+    (live : Option (List ℕ)) (out new : List ℕ) → 1 ≤ most → at + most ≤ n.size → IsPiece n at lent
+    → count ≡ min most (piece_len lent) → new ≡ out ++ take count (piece_bytes lent)
+    → IfSome live (λ now. piece_bytes lent ≡ slice_range (content_of v now n) at (at + piece_len lent))
+    → AddsPart v n at most count live out new
+adds_piece v n at most count lent live out new some inside is count_is new_is told =
+    let some_lent = piece_some n at lent is in
+    let len = piece_long lent in
+    let within : count ≤ piece_len lent = omega arith in
+    record {
+      some = omega arith;
+      few = omega arith;
+      ends = λ less.
+          (let all : count ≡ piece_len lent = omega arith in
+          ap (λ (k : ℕ). (at + k) % 4096) all ∙ piece_ends n at lent is (omega arith));
+      bytes = record {
+        bytes = take count (piece_bytes lent);
+        added = new_is;
+        size = length-take-le count (piece_bytes lent) (omega arith) ∙ omega arith;
+        told =
+            some_map live _ _ (λ m p.
+            ap (take count) p ∙ slice_front (content_of v m n) at count (piece_len lent) within) told;
+      };
+    }
+
+-- ---- all parts
+
+-- So much was read.
+pub record IsReading (v : VolumeTable) (n : Node) (at next end : ℕ) (live : Option (List ℕ))
+    (out now : List ℕ) (before after' : Seen) : Type 0 where
+  pub low : at ≤ next
+  pub stop : next ≤ max at end
+  pub bytes : AddsBytes v n at next live out now
+  pub used : ℕ
+  pub begun : 0 < used → (at < end) × (next ≤ end)
+  pub few : next < end → used + at / 4096 ≤ next / 4096
+  pub most : used + at / 4096 ≤ blocks_of next
+  pub reads : OnlyReads used before after'
+
+pub reading_none : (v : VolumeTable) (n : Node) (at end : ℕ) (live : Option (List ℕ)) (out : List ℕ)
+    (seen : Seen) → IsReading v n at at end live out out seen seen
+reading_none v n at end live out seen = record {
+  low = omega arith;
+  stop = omega arith;
+  bytes = adds_none v n live at out;
+  used = 0;
+  begun = λ some. absurd (omega arith);
+  few = λ lt. omega arith;
+  most = omega arith;
+  reads = reads_none 0 seen;
+}
+
+pub reading_more : (v : VolumeTable) (n : Node) (at next end count : ℕ) (live : Option (List ℕ))
+    (out mid new : List ℕ) (before between after' : Seen) → next < end
+    → IsReading v n at next end live out mid before between
+    → AddsPart v n next (end - next) count (live_of between) mid new
+    → OnlyReads 1 between after' → live_of between ≡ live
+    → IsReading v n at (next + count) end live out new before after'
+reading_more v n at next end count live out mid new before between after' lt so_far part reads same =
+    let low = so_far.low in
+    let some = part.some in
+    let less = part.few in
+    let few = so_far.few lt in
+    let bytes : AddsBytes v n next (next + count) live mid new =
+    subst (λ (o : Option (List ℕ)). AddsBytes v n next (next + count) o mid new) same part.bytes in
+    record {
+      low = omega arith;
+      stop = omega arith;
+      bytes = adds_then v n live at next (next + count) out mid new low (omega arith) so_far.bytes bytes;
+      used = so_far.used + 1;
+      begun = λ some'. (omega arith, omega arith);
+      few = λ more. (let whole = part.ends (omega arith) in omega arith);
+      most = omega arith;
+      reads = reads_then so_far.used 1 (so_far.used + 1) before between after' (omega arith) so_far.reads reads;
+    }
+
+pub reading_all : (v : VolumeTable) (n : Node) (at next end : ℕ) (live : Option (List ℕ))
+    (out now : List ℕ) (before after' : Seen) → end ≤ next
+    → IsReading v n at next end live out now before after' → AddsBytes v n at end live out now
+reading_all v n at next end live out now before after' le reading =
+    let low = reading.low in
+    let stop = reading.stop in
+    adds_until v n live at next end out now (omega arith) reading.bytes
+
+-- what was read until now, in the reads that all may take
+pub reading_reads : (v : VolumeTable) (n : Node) (at next end : ℕ) (live : Option (List ℕ))
+    (out now : List ℕ) (before after' : Seen)
+    → IsReading v n at next end live out now before after'
+    → OnlyReads (reads_between at end) before after'
+reading_reads v n at next end live out now before after' reading =
+    reads_then reading.used 0 (reads_between at end) before after' after' few reading.reads
+    (reads_none 0 after')
+  where
+    some : (at end used : ℕ) → at < end → used + at / 4096 ≤ blocks_of end
+        → used + 0 ≤ reads_between at end
+    some at end used lt le =
+        let is : nat_lt at end ≡ true = grind (arith, nat_tests) in
+        rw is (omega (arith, le))
+
+    few : reading.used + 0 ≤ reads_between at end
+    few = elim (cases_lt 0 reading.used) [
+      | inl more ↦
+          (let inside = reading.begun more in
+          let most = reading.most in
+          some at end reading.used inside.0 (omega (arith, most, inside.1)))
+      | inr none ↦ omega (arith, none)
+    ]
+
+-- ---- the file that is read
+
+-- a piece that was lent, or zeros of it
+pub added_part : (v : VolumeTable) (file at most count : ℕ) (lent : Piece) (live : Option (List ℕ))
+    (out new : List ℕ) → 1 ≤ most
+    → IfThere (node_with v file) (λ n. (plain_node n ≡ true) × (at + most ≤ n.size))
+    → IfThere (node_with v file) (λ n. IsPiece n at lent)
+    → IfSome live (λ now. IfThere (node_with v file) (λ n. plain_node n ≡ true
+    → piece_bytes lent ≡ slice_range (content_of v now n) at (at + piece_len lent)))
+    → count ≡ min most (piece_len lent) → new ≡ out ++ take count (piece_bytes lent)
+    → IfThere (node_with v file) (λ n. AddsPart v n at most count live out new)
+added_part v file at most count lent live out new some there is told count_is new_is =
+    there_map (node_with v file) _ _ (λ n n_is here.
+    adds_piece v n at most count lent live out new some here.1
+    (there_has (node_with v file) n (λ m. IsPiece m at lent) n_is is) count_is new_is
+    (some_map live _ _ (λ now h.
+    there_has (node_with v file) n (λ m. plain_node m ≡ true
+    → piece_bytes lent ≡ slice_range (content_of v now m) at (at + piece_len lent)) n_is h here.0) told)) there
+
+pub added_zeros : (v : VolumeTable) (file at most count zeros : ℕ) (live : Option (List ℕ))
+    (out new : List ℕ) → 1 ≤ most
+    → IfThere (node_with v file) (λ n. (plain_node n ≡ true) × (at + most ≤ n.size))
+    → IfThere (node_with v file) (λ n. IsPiece n at (piece.Zeros zeros))
+    → IfSome live (λ now. IfThere (node_with v file) (λ n. plain_node n ≡ true
+    → piece_bytes (piece.Zeros zeros) ≡ slice_range (content_of v now n) at (at + piece_len (piece.Zeros zeros))))
+    → count ≡ min most zeros → new ≡ out ++ replicate count 0
+    → IfThere (node_with v file) (λ n. AddsPart v n at most count live out new)
+added_zeros v file at most count zeros live out new some there is told count_is new_is =
+    let few : count ≤ zeros = omega (arith, count_is) in
+    added_part v file at most count (piece.Zeros zeros) live out new some there is told count_is
+    (new_is ∙ ap (λ (xs : List ℕ). out ++ xs) (sym (take-replicate count zeros 0 few)))
+
+-- what was read, and the volume, whose disk alone went on
+abbrev pub ReadsOn : VolumeView → VolumeView → ℕ → ℕ → ℕ → ℕ → List ℕ → List ℕ → Type 0
+ReadsOn old now file at next end out mid =
+    IfThere (node_with old.table file) (λ n. IsReading old.table n at next end
+    (live_of old.seen) out mid old.seen now.seen)
+
+pub pieces_none : (old : VolumeView) (file at end : ℕ) (out : List ℕ) (P : Node → Type 0)
+    → IfThere (node_with old.table file) P → ReadsOn old old file at at end out out
+pieces_none old file at end out P there =
+    there_map (node_with old.table file) P _
+    (λ n n_is here. reading_none old.table n at end (live_of old.seen) out old.seen) there
+
+pub pieces_more : (old now later : VolumeView) (file at next end count : ℕ) (out mid new : List ℕ)
+    → next < end → now ≡ record old { seen = now.seen }
+    → ReadsOn old now file at next end out mid
+    → IfThere (node_with now.table file) (λ n. AddsPart now.table n next (end - next) count
+    (live_of now.seen) mid new)
+    → OnlyReads 1 now.seen later.seen → ReadsOn old later file at (next + count) end out new
+pieces_more old now later file at next end count out mid new lt same reading part reads =
+    let table : now.table ≡ old.table = ap (λ (v : VolumeView). v.table) same in
+    let there = subst (λ (v : VolumeTable). IfThere (node_with v file) (λ n. AddsPart v n next (end - next) count (live_of now.seen) mid new)) table part in
+    there_map (node_with old.table file) _ _ (λ n n_is r.
+    reading_more old.table n at next end count (live_of old.seen) out mid new old.seen now.seen later.seen lt r
+    (there_has (node_with old.table file) n (λ m. AddsPart old.table m next (end - next) count (live_of now.seen) mid new) n_is there)
+    reads r.reads.live) reading
+
+-- the count of a part is above 0, and no greater than what is left
+pub part_count : (v : VolumeTable) (file next most count : ℕ) (live : Option (List ℕ))
+    (mid new : List ℕ) → IfThere (node_with v file) (λ n. AddsPart v n next most count live mid new)
+    → (1 ≤ count) × (count ≤ most)
+part_count v file next most count live mid new part =
+    let it = there_is (node_with v file) _ part in
+    (it.2.some, it.2.few)
+
+pub pieces_faults : (old now : VolumeView) (file at next end : ℕ) (out mid : List ℕ)
+    → ReadsOn old now file at next end out mid → old.seen.faults ≤ now.seen.faults
+pieces_faults old now file at next end out mid reading =
+    let it = there_is (node_with old.table file) _ reading in
+    it.2.reads.elapses.faults
+
+-- what is left can be read
+pub pieces_there : (old now : VolumeView) (file next end : ℕ) → now ≡ record old { seen = now.seen }
+    → next < end → IfThere (node_with old.table file) (λ n. (plain_node n ≡ true) × (end ≤ n.size))
+    → IfThere (node_with now.table file) (λ n. (plain_node n ≡ true) × (next + (end - next) ≤ n.size))
+pieces_there old now file next end same lt there =
+    subst (λ (v : VolumeTable). IfThere (node_with v file) (λ n. (plain_node n ≡ true) × (next + (end - next) ≤ n.size)))
+    (sym (ap (λ (v : VolumeView). v.table) same))
+    (there_map (node_with old.table file) _ _ (λ n n_is here. (here.0, omega (arith, lt, here.1))) there)
+
+pub pieces_all : (old now : VolumeView) (file at next end : ℕ) (out mid : List ℕ) → end ≤ next
+    → ReadsOn old now file at next end out mid
+    → IfThere (node_with old.table file) (λ n. AddsBytes old.table n at end (live_of old.seen) out mid)
+pieces_all old now file at next end out mid le reading =
+    there_map (node_with old.table file) _ _ (λ n n_is r.
+    reading_all old.table n at next end (live_of old.seen) out mid old.seen now.seen le r) reading
+
+pub pieces_front : (old now : VolumeView) (file at next end : ℕ) (out mid : List ℕ)
+    → ReadsOn old now file at next end out mid → take (length out) mid ≡ out
+pieces_front old now file at next end out mid reading =
+    let it = there_is (node_with old.table file) _ reading in
+    ap (take (length out)) it.2.bytes.added ∙ take-append-le (length out) out it.2.bytes.bytes (omega arith)
+    ∙ take_all (length out) out (omega arith)
+
+pub pieces_reads : (old now : VolumeView) (file at next end : ℕ) (out mid : List ℕ)
+    → ReadsOn old now file at next end out mid → OnlyReads (reads_between at end) old.seen now.seen
+pieces_reads old now file at next end out mid reading =
+    let it = there_is (node_with old.table file) _ reading in
+    reading_reads old.table it.0 at next end (live_of old.seen) out mid old.seen now.seen it.2
+
+-- one read more, where some is left
+pub pieces_last : (old now later : VolumeView) (file at next end : ℕ) (out mid : List ℕ) → next < end
+    → ReadsOn old now file at next end out mid → OnlyReads 1 now.seen later.seen
+    → OnlyReads (reads_between at end) old.seen later.seen
+pieces_last old now later file at next end out mid lt reading reads =
+    let it = there_is (node_with old.table file) _ reading in
+    let r = it.2 in
+    let few = r.few lt in
+    let low = r.low in
+    let inside : nat_lt at end ≡ true = grind (arith, nat_tests) in
+    reads_then r.used 1 (reads_between at end) old.seen now.seen later.seen
+    (rw inside (omega (arith, few, lt, low))) r.reads reads
+
+-- ---- a range
+
+-- up to its end in the bytes
+range_cut : (xs : List ℕ) (at len : ℕ)
+    → slice_range xs at (min (at + len) (length xs)) ≡ take len (drop at xs)
+range_cut xs at len =
+    let rest = length-drop at xs in
+    elim (cases_lt (length xs) (at + len)) [
+      | inl past ↦
+          (let all : min (at + len) (length xs) - at ≡ length xs - at = omega arith in
+          ap (λ (k : ℕ). take k (drop at xs)) all
+          ∙ take_all (length xs - at) (drop at xs) (omega arith)
+          ∙ sym (take_all len (drop at xs) (omega arith)))
+      | inr within ↦
+          (let all : min (at + len) (length xs) - at ≡ len = omega arith in
+          ap (λ (k : ℕ). take k (drop at xs)) all)
+    ]
+
+pub appended : (v : VolumeTable) (n : Node) (range : ByteRange) (live : Option (List ℕ))
+    (out new : List ℕ) → IfSome live (λ m. length (content_of v m n) ≡ n.size)
+    → AddsBytes v n range.at (read_end n range) live out new → Appends v n range live out new
+appended v n range live out new long adds = record {
+  bytes = adds.bytes;
+  appended = adds.added;
+  size = omega (arith, adds.size);
+  told =
+      some_both live _ _ _ (λ m p whole.
+      p ∙ ap (λ (k : ℕ). slice_range (content_of v m n) range.at (min (range.at + range.len) k)) (sym whole)
+      ∙ range_cut (content_of v m n) range.at range.len) adds.told long;
+}
+
+-- the same of the file with an id
+pub read_appended : (v : VolumeTable) (file end : ℕ) (range : ByteRange) (live : Option (List ℕ))
+    (out new : List ℕ) → IsTable v → IfSome live (λ m. length m ≡ 4096 * v.layout.total)
+    → IfThere (node_with v file) (λ n. end ≡ read_end n range)
+    → IfThere (node_with v file) (λ n. AddsBytes v n range.at end live out new)
+    → IfThere (node_with v file) (λ n. Appends v n range live out new)
+read_appended v file end range live out new table sized ends adds =
+    there_map (node_with v file) _ _ (λ n is e.
+    appended v n range live out new
+    (some_map live _ _ (λ m whole. long v n table (found_by v file n is) m whole) sized)
+    (subst (λ (k : ℕ). AddsBytes v n range.at k live out new) e
+    (there_has (node_with v file) n (λ m. AddsBytes v m range.at end live out new) is adds))) ends
+
+-- it is no longer than the range
+pub appended_few : (v : VolumeTable) (file : ℕ) (range : ByteRange) (live : Option (List ℕ))
+    (out new : List ℕ) → IfThere (node_with v file) (λ n. Appends v n range live out new)
+    → (length out ≤ length new) × (length new - length out ≤ range.len)
+appended_few v file range live out new adds =
+    let it = there_is (node_with v file) _ adds in
+    let size = it.2.size in
+    let len : length new ≡ length out + length it.2.bytes =
+    ap (λ (xs : List ℕ). length xs) it.2.appended ∙ length-append out it.2.bytes in
+    (omega (arith, len), omega (arith, len, size))
+
+-- ---- what reading leaves
+
+-- the volume is up, and only its disk was read
+pub only_looked : {T : Type 0} (most : ℕ) (r : Result T Hindrance) (old new : VolumeView)
+    → old.down ≡ None → new ≡ record old { seen = new.seen } → OnlyReads most old.seen new.seen
+    → IfErr r (HindersReading old.seen new.seen) → OnlyLooks most r old new
+only_looked most r old new up same reads cause = record {
+  same = same;
+  reads = reads;
+  cause = λ still. cause;
+  down = never_down r old new up;
+}
+
+-- the same of the file with an id
+pub read_looked : {T : Type 0} (r : Result T Hindrance) (old new : VolumeView) (file end : ℕ)
+    (range : ByteRange) → old.down ≡ None → new ≡ record old { seen = new.seen }
+    → IfThere (node_with old.table file) (λ n. end ≡ read_end n range)
+    → OnlyReads (reads_between range.at end) old.seen new.seen
+    → IfErr r (HindersReading old.seen new.seen)
+    → IfThere (node_with old.table file) (λ n. OnlyLooks (reads_in range n) r old new)
+read_looked r old new file end range up same ends reads cause =
+    there_map (node_with old.table file) _ _ (λ n is e.
+    only_looked (reads_in range n) r old new up same
+    (subst (λ (k : ℕ). OnlyReads (reads_between range.at k) old.seen new.seen) e reads) cause) ends
+
+-- there was no memory
+pub read_short : {T : Type 0} (r : Result T Hindrance) (v : VolumeView) (file : ℕ) (range : ByteRange)
+    (P : Node → Type 0) → v.down ≡ None → IfThere (node_with v.table file) P
+    → IfErr r (HindersReading v.seen v.seen)
+    → IfThere (node_with v.table file) (λ n. OnlyLooks (reads_in range n) r v v)
+read_short r v file range P up there cause =
+    there_map (node_with v.table file) P _ (λ n is here.
+    only_looked (reads_in range n) r v v up refl (reads_none (reads_in range n) v.seen) cause) there
+
+-- ---- within a block
+
+-- a range that begins a block's part takes one read at most, and none where it has no byte
+pub few_reads : (n : Node) (range : ByteRange) (b : Bool) → range.at % 4096 + range.len ≤ 4096
+    → ((range.at < n.size) → 1 ≤ range.len → b ≡ true) → reads_in range n ≤ one_if b
+few_reads n range b short has = elim (cases_lt range.at (read_end n range)) [
+  | inl some ↦
+      (let yes : nat_lt range.at (read_end n range) ≡ true = grind (arith, nat_tests) in
+      let is : b ≡ true = has (omega (arith, some)) (omega (arith, some)) in
+      let one : one_if b ≡ 1 = ap one_if is in
+      let few : blocks_of (read_end n range) - range.at / 4096 ≤ 1 = omega (arith, short, some) in
+      rw yes (omega (arith, one, few)))
+  | inr none ↦
+      (let no : nat_lt range.at (read_end n range) ≡ false = grind (arith, nat_tests) in
+      rw no (omega arith))
+]
+
+pub stops_read : (most : ℕ) (old new : VolumeView) → old.down ≡ None
+    → OnlyReads most old.seen new.seen → StopsWell old new
+stops_read most old new up reads =
+    stops_then old old new up up (stops_none old)
+    (λ files opens. leaves_reading (OpensAs files) most old.seen new.seen reads opens)
+
+-- the volume was down
+pub looked_down : {T : Type 0} (most : ℕ) (v : VolumeView) (at : ℕ) → v.down ≡ Some at
+    → OnlyLooks {T = T} most (Err (hindrance.Down at)) v v
+looked_down {T = T} most v at is = record {
+  same = refl;
+  reads = reads_none most v.seen;
+  cause = λ up. absurd (let e = sym up ∙ is in cc);
+  down = answered_down {T = T} (Err (hindrance.Down at)) v v at is refl refl;
+}
+
+-- ---- bytes with zeros behind them
+
+-- so many bytes, and zeros for those that are missing
+resized_fill : (xs : List ℕ) (len : ℕ)
+    → take len xs ++ replicate (len - length (take len xs)) 0 ≡ resized len xs
+resized_fill xs len = elim (cases_lt (length xs) len) [
+  | inl short ↦
+      (let all : take len xs ≡ xs = take_all len xs (omega arith) in
+      let split : length xs + (len - length xs) ≡ len = omega arith in
+      ap (λ (ys : List ℕ). ys ++ replicate (len - length ys) 0) all
+      ∙ ap (λ (ys : List ℕ). xs ++ ys) (sym (take-replicate (len - length xs) len 0 (omega arith)))
+      ∙ sym (take-append-add xs (replicate len 0) (len - length xs))
+      ∙ ap (λ (k : ℕ). take k (xs ++ replicate len 0)) split)
+  | inr long ↦
+      (let none : len - length (take len xs) ≡ 0 = omega (arith, length-take-le len xs long) in
+      ap (λ (k : ℕ). take len xs ++ replicate k 0) none
+      ∙ append-nil (take len xs)
+      ∙ sym (take-append-le len xs (replicate len 0) long))
+]
+
+pub resized_vec : (xs : List ℕ) (size : ℕ) → length xs ≤ size
+    → take size xs ++ replicate (size - length xs) 0 ≡ resized size xs
+resized_vec xs size le =
+    let same : length (take size xs) ≡ length xs = ap (λ (ys : List ℕ). length ys) (take_all size xs le) in
+    ap (λ (k : ℕ). take size xs ++ replicate (size - k) 0) (sym same) ∙ resized_fill xs size
+
+-- what was read of a range, with zeros behind it
+pub add_filled : (v : VolumeTable) (n : Node) (range : ByteRange) (live : Option (List ℕ))
+    (out mid new : List ℕ) (count : ℕ) → Appends v n range live out mid
+    → count ≡ range.len - (length mid - length out) → new ≡ mid ++ replicate count 0
+    → AddsOld v n range live out new
+add_filled v n range live out mid new count read count_is new_is =
+    let size = read.size in
+    let mid_len : length mid ≡ length out + length read.bytes =
+    ap (λ (xs : List ℕ). length xs) read.appended ∙ length-append out read.bytes in
+    let zeros = length-replicate {A = ℕ} count 0 in
+    let rest : count ≡ range.len - length read.bytes = omega arith in
+    record {
+      bytes = read.bytes ++ replicate count 0;
+      added =
+          new_is ∙ ap (λ (xs : List ℕ). xs ++ replicate count 0) read.appended
+          ∙ append_assoc out read.bytes (replicate count 0);
+      size = length-append read.bytes (replicate count 0) ∙ omega arith;
+      told =
+          some_map live _ _ (λ m p.
+          ap (λ (k : ℕ). read.bytes ++ replicate k 0) rest
+          ∙ ap (λ (xs : List ℕ). xs ++ replicate (range.len - length xs) 0) p
+          ∙ resized_fill (drop range.at (content_of v m n)) range.len) read.told;
+    }
+
+-- the same of the file with an id, and what it leaves
+pub old_added : (v : VolumeTable) (file : ℕ) (range : ByteRange) (live : Option (List ℕ))
+    (out mid new : List ℕ) (count : ℕ)
+    → IfThere (node_with v file) (λ n. Appends v n range live out mid)
+    → count ≡ range.len - (length mid - length out) → new ≡ mid ++ replicate count 0
+    → IfThere (node_with v file) (λ n. AddsOld v n range live out new)
+old_added v file range live out mid new count read count_is new_is =
+    there_map (node_with v file) _ _ (λ n is h.
+    add_filled v n range live out mid new count h count_is new_is) read
+
+pub looked_works : {T : Type 0} (r : Result T Hindrance) (old new : VolumeView) (file : ℕ)
+    (range : ByteRange) → IfThere (node_with old.table file) (λ n. OnlyLooks (reads_in range n) r old new)
+    → IfThere (node_with old.table file) (λ n. Works (reads_in range n) old new)
+looked_works r old new file range looks =
+    there_map (node_with old.table file) _ _ (λ n is h. works_reads (reads_in range n) old new h.same h.reads) looks
+
+pub looked_cause : {T : Type 0} (r : Result T Hindrance) (old new : VolumeView) (file : ℕ)
+    (range : ByteRange) → old.down ≡ None
+    → IfThere (node_with old.table file) (λ n. OnlyLooks (reads_in range n) r old new)
+    → IfErr r (HindersReading old.seen new.seen)
+looked_cause r old new file range up looks =
+    let it = there_is (node_with old.table file) _ looks in
+    it.2.cause up
+
+-- the block at the old end, which is written or not
+pub end_reads : (n : Node) (range : ByteRange) (ends : ℕ) → range.at % 4096 ≡ 0 → ends ≤ 1
+    → range.len ≡ 4096 * ends → reads_in range n ≤ ends
+end_reads n range ends start few len =
+    let most = few_reads n range (nat_lt 0 ends) (omega (arith, start, few, len))
+    (λ lt some. (let more : 0 < ends = omega (arith, some, len) in grind (arith, nat_tests))) in
+    elim (cases_lt 0 ends) [
+      | inl some ↦ (let is : nat_lt 0 ends ≡ true = grind (arith, nat_tests) in
+          omega (arith, most, ap one_if is, some))
+      | inr none ↦ (let is : nat_lt 0 ends ≡ false = grind (arith, nat_tests) in
+          omega (arith, most, ap one_if is))
+    ]
+
+pub before_reads : (n : Node) (range : ByteRange) (at : ℕ) → range.at ≡ 4096 * (at / 4096)
+    → range.len ≡ at % 4096 → reads_in range n ≤ one_if (stands_before n at)
+before_reads n range at start len =
+    few_reads n range (stands_before n at) (omega (arith, start, len))
+    (λ lt some.
+    (let inside : nat_lt (4096 * (at / 4096)) n.size ≡ true =
+    (let less : 4096 * (at / 4096) < n.size = omega (arith, lt, start) in grind (arith, nat_tests)) in
+    let part : (at % 4096 == 0) ≡ false = (let more : 0 < at % 4096 = omega (arith, some, len) in grind (arith, nat_tests)) in
+    rw (part, inside) refl))
+
+pub behind_reads : (n : Node) (range : ByteRange) (end : ℕ) → range.at ≡ end
+    → range.len ≡ 4096 * blocks_of end - end → reads_in range n ≤ one_if (stands_behind n end)
+behind_reads n range end start len =
+    few_reads n range (stands_behind n end) (omega (arith, start, len))
+    (λ lt some.
+    (let inside : nat_lt end n.size ≡ true =
+    (let less : end < n.size = omega (arith, lt, start) in grind (arith, nat_tests)) in
+    let part : (end % 4096 == 0) ≡ false = (let more : 0 < end % 4096 = omega (arith, some, len) in grind (arith, nat_tests)) in
+    rw (part, inside) refl))

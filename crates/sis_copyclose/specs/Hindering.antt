@@ -1,0 +1,42 @@
+-- Why an operation is hindered.
+use Rattle.std.specs.Prelude.{◌≡◌, ◌<◌, ℕ, length, None, Some, ⊤}
+use Rattle.sis_disk.specs.Layout.{table_cap}
+use Rattle.sis_disk.specs.Record.{Rose}
+use Rattle.sis_history.specs.Needs.{Need, hindrance_of}
+use Rattle.sis_model.specs.declared.reply.Hindrance.{Hindrance}
+use Rattle.sis_model.specs.declared.reply.Hindrance.TheVariants as hindrance
+use Rattle.sis_table.specs.Spelling.{spelling}
+use Rattle.sis_table.specs.Volume.{VolumeTable}
+use Rattle.sis_volume.specs.Room.{WentDown}
+use Rattle.sis_volume.specs.View.{VolumeView, spare}
+
+-- the new table has this length, which is above the greatest one of the area
+pub record IsTooLong (v new : VolumeTable) (needed cap : ℕ) : Type 0 where
+  pub size : needed ≡ length (spelling new)
+  pub most : cap ≡ table_cap v.layout
+  pub above : cap < needed
+
+-- no limit is met, and there is room
+abbrev pub IsUnhindered : VolumeTable → Need → Type 0
+IsUnhindered v need = hindrance_of v need ≡ None
+
+-- fewer places are spare than blocks are needed, so a commit has to make room
+abbrev pub LacksRoom : Need → VolumeView → Type 0
+LacksRoom need v = spare v < need.blocks
+
+-- Why an operation that needs this, and leads to one of these tables, is hindered on a volume that
+-- is up. A limit and want of room are what the numbers say, and change nothing. Down is a commit
+-- that had to make room. Want of memory is free.
+abbrev pub Hinders : Need → (VolumeTable → Type 0) → VolumeView → VolumeView → Hindrance → Type 0
+Hinders need MayLead old new (hindrance.Limit kind) =
+    (hindrance_of old.table need ≡ Some (hindrance.Limit kind)) × (new ≡ old)
+Hinders need MayLead old new (hindrance.Full needed used total) =
+    (hindrance_of old.table need ≡ Some (hindrance.Full needed used total)) × (new ≡ old)
+Hinders need MayLead old new (hindrance.Down at) =
+    IsUnhindered old.table need × LacksRoom need old × WentDown at old new
+Hinders need MayLead old new hindrance.Disk =
+    IsUnhindered old.table need × Rose old.seen.faults new.seen.faults
+Hinders need MayLead old new (hindrance.TableFull needed cap) =
+    IsUnhindered old.table need
+    × ((next : VolumeTable) × MayLead next × IsTooLong old.table next needed cap)
+Hinders need MayLead old new hindrance.Memory = ⊤

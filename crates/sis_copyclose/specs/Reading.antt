@@ -1,0 +1,52 @@
+-- What reading gives, and what it leaves.
+use Rattle.std.specs.Prelude.{◌≡◌, ℕ, ◌+◌, ◌-◌, ◌/◌, min, nat_lt, if◌then◌else◌, List, ◌++◌, length, take, drop, Option, None, IfSome, Result, Err, IfErr, ⊤}
+use Rattle.sis_disk.specs.Record.{Rose, Seen}
+use Rattle.sis_model.specs.declared.reply.Hindrance.{Hindrance}
+use Rattle.sis_model.specs.declared.reply.Hindrance.TheVariants as hindrance
+use Rattle.sis_table.specs.Content.{content_of}
+use Rattle.sis_table.specs.Volume.{VolumeTable, blocks_of}
+use Rattle.sis_table.specs.declared.node.Node.{Node}
+use Rattle.sis_view.specs.Reading.{OnlyReads}
+use Rattle.sis_volume.specs.View.{VolumeView}
+use Rattle.sis_model.specs.declared.range.ByteRange.{ByteRange}
+
+-- the bytes of a range, as far as there are some
+abbrev pub range_of : ByteRange → List ℕ → List ℕ
+range_of range bytes = take range.len (drop range.at bytes)
+
+-- where the range ends in the file
+abbrev pub read_end : Node → ByteRange → ℕ
+read_end n range = min (range.at + range.len) n.size
+
+-- how many blocks have a byte from one up to before another
+abbrev pub reads_between : ℕ → ℕ → ℕ
+reads_between at end = if nat_lt at end then blocks_of end - at / 4096 else 0
+
+-- how many blocks of the file the range touches
+abbrev pub reads_in : ByteRange → Node → ℕ
+reads_in range n = reads_between range.at (read_end n range)
+
+-- Behind the old bytes stand those of the file in the range, as far as it goes.
+pub record Appends (v : VolumeTable) (n : Node) (range : ByteRange) (live : Option (List ℕ))
+    (old new : List ℕ) : Type 0 where
+  pub bytes : List ℕ
+  pub appended : new ≡ old ++ bytes
+  pub size : length bytes ≡ min range.len (n.size - range.at)
+  pub told : IfSome live (λ now. bytes ≡ range_of range (content_of v now n))
+
+-- why reading may fail on a volume that is up: want of memory, or a fault of the disk
+abbrev pub HindersReading : Seen → Seen → Hindrance → Type 0
+HindersReading old new hindrance.Memory = ⊤
+HindersReading old new hindrance.Disk = Rose old.faults new.faults
+HindersReading old new (hindrance.Limit kind) = ⊥
+HindersReading old new (hindrance.Full needed used total) = ⊥
+HindersReading old new (hindrance.TableFull needed cap) = ⊥
+HindersReading old new (hindrance.Down at) = ⊥
+
+-- At most so many calls of the disk went by, all of them reads, and the volume is as it was.
+pub record OnlyLooks {T : Type 0} (most : ℕ) (result : Result T Hindrance)
+    (old new : VolumeView) : Type 0 where
+  pub same : new ≡ record old { seen = new.seen }
+  pub reads : OnlyReads most old.seen new.seen
+  pub cause : old.down ≡ None → IfErr result (HindersReading old.seen new.seen)
+  pub down : IfSome old.down (λ at. (result ≡ Err (hindrance.Down at)) × (new ≡ old))
