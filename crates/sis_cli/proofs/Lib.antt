@@ -1,15 +1,13 @@
-pub mod Added
 pub mod Decided
 pub mod Defects
 pub mod Early
 pub mod InOrder
 pub mod Lists
-pub mod Makes
+pub mod PutLemmas
 pub mod RanLines
 pub mod Reopening
 pub mod Runs
 pub mod ServeLemmas
-pub mod Staged
 pub mod Surviving
 pub mod WordLemmas
 pub mod Worlds

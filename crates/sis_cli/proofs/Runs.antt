@@ -135,6 +135,7 @@ ran_more old mid new es after l r at ran d is at_is =
       kept = run_push (stage_of old) (stage_of mid) (stage_of new) es e ran.kept (record {
         fits = d.fits;
         changes = d.changes;
+        table = d.table;
         down = d.down;
         faults = d.elapses.faults;
         calls = d.elapses.calls;

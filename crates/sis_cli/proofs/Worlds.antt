@@ -19,7 +19,7 @@ use Rattle.sis_table.specs.Content.{files_in, files_of, content_of}
 use Rattle.sis_table.proofs.CallerLemmas.{files_of-made, keys-files_of}
 use Rattle.sis_table.proofs.ContentLemmas.{same_test}
 use Rattle.sis_volume.specs.View.{VolumeView}
-use Rattle.sis_cli.specs.Stages.{AddsFile}
+use Rattle.sis_copyclose.specs.Changed.{IsWithFile}
 use Rattle.sis_cli.specs.Session.{ShowsWorld}
 
 -- ---- a file under a new name
@@ -78,30 +78,25 @@ stands_with (Some fs) new files name bytes e h =
     subst (λ (o : Option Files). IfSome o (λ fs. fs ≡ insert files name bytes)) (sym e)
     (ap (λ (x : Files). insert x name bytes) h)
 
-abbrev added_node : (v : VolumeTable) (name bytes : List ℕ) (new : VolumeTable)
-    → AddsFile v new name bytes → Node
-added_node v name bytes new adds =
-    made_file v.next_id name (length bytes) adds.places
-
 -- the world with the file, and the volume that has it
 pub shows_more : (w : World) (old new : VolumeView) (name bytes : List ℕ) → ShowsWorld w old
     → list_any (has_name name) old.table.nodes ≡ false
-    → AddsFile old.table new.table name bytes
+    → IsWithFile old.table name (length bytes) new.table
     → files_in new.table new.seen ≡ option_map (λ (files : Files). insert files name bytes)
     (files_in old.table old.seen)
     → ShowsWorld (with_file w name bytes) new
-shows_more w old new name bytes h free adds files =
-    let n = added_node old.table name bytes new.table adds in
+shows_more w old new name bytes h free made files =
+    let n = made_file old.table.next_id name (length bytes) made.0 in
     let u : VolumeTable =
     record old.table { next_id = old.table.next_id + 1; nodes = old.table.nodes ++ n ∷ [] } in
     record {
-      letter = h.letter ∙ ap (λ (t : VolumeTable). t.layout.letter) (sym adds.added);
+      letter = h.letter ∙ ap (λ (t : VolumeTable). t.layout.letter) (sym made.2);
       names =
           keys-insert w.files name bytes
           ∙ ap (put_key name) (h.names ∙ sym (keys-files_of old.table []))
           ∙ sym (keys-insert (files_of old.table []) name (content_of old.table [] n))
           ∙ ap keys (sym (files_of-made old.table n (old.table.next_id + 1) [] free))
-          ∙ keys-files_of u [] ∙ ap (λ (t : VolumeTable). keys (ids_of t)) (sym adds.added);
+          ∙ keys-files_of u [] ∙ ap (λ (t : VolumeTable). keys (ids_of t)) (sym made.2);
       sizes = λ q.
           ap (option_map length) (get-insert name_total w.files name bytes q)
           ∙ some_of_cond length (is_at (name_cmp q) name) bytes (get w.files q)
@@ -110,7 +105,7 @@ shows_more w old new name bytes h free adds files =
           ∙ ap (cond (same_name name q) (Some (length bytes))) (h.sizes q)
           ∙ sym (sizes_added old.table.nodes n q free)
           ∙ ap (λ (t : VolumeTable). option_map (λ (m : Node). m.size) (node_named t q))
-          (sym adds.added);
+          (sym made.2);
       stands =
           stands_with (files_in old.table old.seen) (files_in new.table new.seen) w.files name bytes
           files h.stands;

@@ -1,5 +1,4 @@
 pub mod Exit
-pub mod Making
 pub mod Run
 pub mod Session
 pub mod Stages

@@ -14,7 +14,7 @@ use Rattle.sis_model.specs.declared.reply.Reply.{Reply}
 use Rattle.sis_model.specs.declared.history.Entry.{Entry}
 use Rattle.sis_model.specs.declared.history.Line.{Line}
 use Rattle.sis_script.specs.Script.{IsBuilt}
-use Rattle.sis_table.specs.Volume.{node_named, ids_of}
+use Rattle.sis_table.specs.Volume.{IsTable, node_named, ids_of}
 use Rattle.sis_table.specs.Content.{files_in}
 use Rattle.sis_volume.specs.View.{VolumeView}
 use Rattle.sis_cli.specs.Stages.{Fits, Changes, IsRun, is_down, any_down, Stage, AnswersDown, commits}
@@ -39,12 +39,13 @@ abbrev pub stage_of : VolumeView → Stage
 stage_of v = record { table = v.table; faults = v.seen.faults; calls = v.seen.calls; down = v.down }
 
 -- A client's command was decided. The world may give this reply, and the volume shows the next
--- world. The reply fits the table before, and the table changed so.
+-- world. The reply fits the table before, which changed so, and is a table again.
 pub record Decides (old new : VolumeView) (client : ℕ) (c : Command) (r : Reply) : Type 0 where
   pub world : (w : World) → ShowsWorld w old
       → MayReply w client c r × ShowsWorld (world_with w client c r) new
   pub fits : Fits old.table (Rose old.seen.faults new.seen.faults) c r
   pub changes : Changes old.table c r new.table
+  pub table : IsTable new.table
   pub down : AnswersDown old.down new.down (stage_of old) c r (stage_of new)
   pub elapses : Elapses old.seen new.seen
   -- what was done before a sync or an end is durable, unless a commit failed

@@ -1,70 +1,33 @@
 -- How the files are kept from one step of a run to the next, and what a reply says of the table
 -- before its step.
-use Rattle.std.specs.Prelude.{◌≡◌, ◌⊎◌, ℕ, ◌+◌, ◌<◌, ◌≤◌, Bool, true, false, if◌then◌else◌, nat_lt, List, [], ◌∷◌, length, Option, None, Some, ⊤}
+use Rattle.std.specs.Prelude.{◌≡◌, ◌⊎◌, ℕ, ◌+◌, ◌≤◌, Bool, true, false, List, [], ◌∷◌, length, Option, None, Some, ⊤}
 use Rattle.std.specs.List.{list_any}
-use Rattle.sis_disk.specs.Layout.{data_blocks, table_cap}
+use Rattle.sis_disk.specs.Layout.{data_blocks}
 use Rattle.sis_disk.specs.Record.{Rose}
+use Rattle.sis_history.specs.Needs.{hindrance_of, put_need}
 use Rattle.sis_model.specs.declared.command.Command.{Command}
 use Rattle.sis_model.specs.declared.command.Command.TheVariants as command
 use Rattle.sis_model.specs.declared.reply.Reply.{Reply}
 use Rattle.sis_model.specs.declared.reply.Reply.TheVariants as reply
-use Rattle.sis_model.specs.declared.reply.LimitKind.{LimitKind}
-use Rattle.sis_model.specs.declared.reply.LimitKind.TheVariants as limit
 use Rattle.sis_model.specs.declared.reply.Hindrance.{Hindrance}
 use Rattle.sis_model.specs.declared.reply.Hindrance.TheVariants as hindrance
 use Rattle.sis_model.specs.declared.history.Entry.{Entry}
-use Rattle.sis_table.specs.Changes.{AreFreePlaces, with_file}
-use Rattle.sis_table.specs.Volume.{VolumeTable, blocks_of, used, greatest_number, most_nodes, IsTable}
-use Rattle.sis_table.specs.Spelling.{spelling}
-
--- the limit that one more file would pass
-abbrev pub limit_of_new : VolumeTable → Option LimitKind
-limit_of_new v =
-    if nat_lt most_nodes (length v.nodes + 1) then Some limit.Files
-    else if nat_lt greatest_number (v.next_id + 1) then Some limit.Ids
-    else None
-
--- so many blocks don't go into the free data blocks
-abbrev pub full_for : VolumeTable → ℕ → Option Hindrance
-full_for v needed =
-    if nat_lt (data_blocks v.layout) (used v + needed)
-    then Some (hindrance.Full needed (used v) (data_blocks v.layout)) else None
-
--- a limit, and else what comes behind it
-abbrev pub limit_or : Option LimitKind → Option Hindrance → Option Hindrance
-limit_or None next = next
-limit_or (Some kind) next = Some (hindrance.Limit kind)
-
--- the first limit that a put meets, or want of blocks
-abbrev pub put_hindrance : VolumeTable → ℕ → Option Hindrance
-put_hindrance v size = limit_or (limit_of_new v) (full_for v (blocks_of size))
-
--- The table has one more plain file, of version 1, and is a table again. The file maps all its
--- blocks, each at a place of its own: that of a data block that no other file maps.
-pub record AddsFile (v new : VolumeTable) (name bytes : List ℕ) : Type 0 where
-  pub places : List ℕ
-  pub free : AreFreePlaces v (blocks_of (length bytes)) places
-  pub added : new ≡ with_file name (length bytes) places v
-  pub is_table : IsTable new
-
--- the table with this file would have this length, which is above the greatest one
-pub record IsTooLong (v : VolumeTable) (name bytes : List ℕ) (needed cap : ℕ) : Type 0 where
-  pub new : VolumeTable
-  pub adds : AddsFile v new name bytes
-  pub length_is : needed ≡ length (spelling new)
-  pub most : cap ≡ table_cap v.layout
-  pub above : cap < needed
+use Rattle.sis_table.specs.Volume.{VolumeTable, IsTable, used}
+use Rattle.sis_copyclose.specs.Changed.{IsWithFile}
+use Rattle.sis_copyclose.specs.Hindering.{IsTooLong, IsUnhindered}
 
 -- What a hindrance of a put says of the table before it. `rose` is that the disk's faults rose.
 abbrev pub IsPutCause : VolumeTable → Type 0 → List ℕ → List ℕ → Hindrance → Type 0
 IsPutCause v rose name bytes (hindrance.Limit kind) =
-    put_hindrance v (length bytes) ≡ Some (hindrance.Limit kind)
+    hindrance_of v (put_need (length bytes)) ≡ Some (hindrance.Limit kind)
 IsPutCause v rose name bytes (hindrance.Full needed used_now total) =
-    put_hindrance v (length bytes) ≡ Some (hindrance.Full needed used_now total)
+    hindrance_of v (put_need (length bytes)) ≡ Some (hindrance.Full needed used_now total)
 IsPutCause v rose name bytes (hindrance.Down at) = ⊤
-IsPutCause v rose name bytes hindrance.Disk = (put_hindrance v (length bytes) ≡ None) × rose
+IsPutCause v rose name bytes hindrance.Disk = IsUnhindered v (put_need (length bytes)) × rose
 IsPutCause v rose name bytes (hindrance.TableFull needed cap) =
-    (put_hindrance v (length bytes) ≡ None) × IsTooLong v name bytes needed cap
+    IsUnhindered v (put_need (length bytes))
+    × ((next : VolumeTable) × IsWithFile v name (length bytes) next × IsTable next
+    × IsTooLong v next needed cap)
 IsPutCause v rose name bytes hindrance.Memory = ⊤
 
 -- no hindrance but a commit that failed: when that comes, `AnswersDown` says
@@ -88,7 +51,7 @@ IsDownOrMemory hindrance.Memory = ⊤
 -- What a put's reply says of the table before it. Which refusal comes says the world of files; no
 -- other reply comes.
 abbrev pub FitsPut : VolumeTable → Type 0 → List ℕ → List ℕ → Reply → Type 0
-FitsPut v rose name bytes reply.Done = put_hindrance v (length bytes) ≡ None
+FitsPut v rose name bytes reply.Done = IsUnhindered v (put_need (length bytes))
 FitsPut v rose name bytes reply.InvalidParameter = ⊤
 FitsPut v rose name bytes reply.AccessDenied = ⊤
 FitsPut v rose name bytes reply.Collision = ⊤
@@ -150,7 +113,7 @@ any_down entries = list_any (λ e. is_down e.reply) entries
 
 -- what a put with this reply does to the table
 abbrev pub PutChanges : VolumeTable → List ℕ → List ℕ → Reply → VolumeTable → Type 0
-PutChanges v name bytes reply.Done new = AddsFile v new name bytes
+PutChanges v name bytes reply.Done new = IsWithFile v name (length bytes) new
 PutChanges v name bytes _ new = new ≡ v
 
 -- what a command with this reply does to the table
@@ -174,7 +137,7 @@ commits _ = false
 
 -- the command may commit, and no number hinders it
 abbrev pub MayReachCommit : VolumeTable → Command → Type 0
-MayReachCommit v (command.Put name bytes) = put_hindrance v (length bytes) ≡ None
+MayReachCommit v (command.Put name bytes) = IsUnhindered v (put_need (length bytes))
 MayReachCommit v command.Sync = ⊤
 MayReachCommit v command.End = ⊤
 MayReachCommit v _ = ⊥
@@ -191,10 +154,11 @@ AnswersDown None (Some at) s c r t =
     MayReachCommit s.table c × (r ≡ reply.Hindered (hindrance.Down at)) × Rose s.faults t.faults
     × (s.calls ≤ at) × ((t.calls ≡ at + 1) ⊎ (t.calls ≡ at))
 
--- from one stage to the next by one entry
+-- From one stage to the next by one entry. Its table is one again.
 pub record IsStep (s : Stage) (e : Entry) (t : Stage) : Type 0 where
   pub fits : Fits s.table (Rose s.faults t.faults) e.command e.reply
   pub changes : Changes s.table e.command e.reply t.table
+  pub table : IsTable t.table
   pub down : AnswersDown s.down t.down s e.command e.reply t
   pub faults : s.faults ≤ t.faults
   pub calls : s.calls ≤ t.calls

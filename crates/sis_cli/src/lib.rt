@@ -4,7 +4,6 @@
 mod ending;
 mod exit;
 mod fault_line;
-mod files;
 mod laws;
 mod running;
 mod session;

@@ -6,6 +6,7 @@ ghost use Rattle.sis_script.specs.Script.{IsBuilt};
 ghost use Rattle.sis_cli.specs.Session.{Decides, MayRun, HasRun, entry_of};
 ghost use Rattle.sis_cli.specs.Stops.{IsDurable, SurvivesRun};
 ghost use Rattle.sis_disk.specs.Record.{IsCounted};
+ghost use Rattle.sis_table.specs.Volume.{IsTable};
 ghost use Rattle.sis_volume.specs.Stopping.{StopsWell};
 
 use crate::session::answer;
@@ -55,6 +56,7 @@ fn in_reverse_order(alloc: Global, lines: Vec<Line>) -> Result<Vec<Line>, AllocE
 fn run_line<D: Disk>(volume: &mut Volume<D>, history: &mut History, alloc: Global, line: Line)
     requires spare { 0 < history.old.spare }
     requires runs { MayRun line.command }
+    requires table { IsTable volume.old.table }
     ensures entry { (reply : AReply)
         × Decides volume.old volume.new line.client line.command reply
         × IsDurable volume.new line.command reply
@@ -83,7 +85,8 @@ pub(crate) fn run_lines<D: Disk>(
     alloc: Global,
     lines: Vec<Line>,
 ) -> Result<History, AllocError>
-    requires { All (λ l. IsBuilt l.command) lines.items }
+    requires built { All (λ l. IsBuilt l.command) lines.items }
+    requires table { IsTable volume.old.table }
     ensures order { IfOk result (λ history.
         map line_of history.entries ≡ exec_order lines.items) }
     ensures ran { IfOk result (λ history. HasRun volume.old volume.new history.entries) }

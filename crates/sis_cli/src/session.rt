@@ -3,15 +3,13 @@ ghost use Rattle.std.specs.Prelude.{◌≡◌, ℕ, ◌+◌, ◌<◌, ◌≤◌,
 ghost use Rattle.std.specs.Option.{option_map, option_copied};
 ghost use Rattle.sis_model.specs.Answer.{most_names};
 ghost use Rattle.sis_model.specs.declared.command.Command.TheVariants as command;
-ghost use Rattle.sis_table.specs.Volume.{node_named, names_after};
+ghost use Rattle.sis_table.specs.Volume.{IsTable, node_named, names_after};
 ghost use Rattle.sis_cli.specs.Session.{Decides, Tells, MayRun};
-ghost use Rattle.sis_cli.specs.Stages.{limit_of_new};
 ghost use Rattle.sis_cli.specs.Stops.{IsDurable};
 ghost use Rattle.sis_volume.specs.Stopping.{StopsWell};
 
-use crate::files::make_file;
 use sis_disk::Disk;
-use sis_model::{Bytes, Command, Hindrance, LimitKind, NameList, Reply, UnsettledList};
+use sis_model::{Bytes, Command, Hindrance, NameList, Reply, UnsettledList};
 use sis_name::Name;
 use sis_volume::Volume;
 use std::alloc::{AllocError, Global};
@@ -20,26 +18,10 @@ use std::alloc::{AllocError, Global};
 const MOST_PUT_BYTES: usize = 65536;
 /// The most names of one list.
 const MOST_NAMES: usize = 100;
-/// The most files of a volume.
-const MOST_FILES: u64 = 65_536;
-/// The greatest id, and the last next id.
-const GREATEST_NUMBER: u64 = 9_223_372_036_854_775_807;
-
-// The limit that one more file would pass.
-fn new_file_limit<D: Disk>(volume: &Volume<D>) -> Option<LimitKind>
-    ensures { result ≡ limit_of_new volume.now.table }
-{
-    if volume.files() >= MOST_FILES {
-        return Some(LimitKind::Files);
-    }
-    if volume.next_id() >= GREATEST_NUMBER {
-        return Some(LimitKind::Ids);
-    }
-    None
-}
 
 fn put<D: Disk>(volume: &mut Volume<D>, alloc: Global, name: &Name, bytes: &Bytes) -> Reply
-    requires { volume.old.down ≡ None }
+    requires up { volume.old.down ≡ None }
+    requires table { IsTable volume.old.table }
     ensures decides { (client : ℕ)
         → Decides volume.old volume.new client (command.Put name.now bytes.now) result }
     ensures stops { StopsWell volume.old volume.new }
@@ -53,12 +35,7 @@ fn put<D: Disk>(volume: &mut Volume<D>, alloc: Global, name: &Name, bytes: &Byte
     if volume.find(name).is_some() {
         return Reply::Collision;
     }
-    if let Some(kind) = new_file_limit(volume) {
-        return Reply::Hindered {
-            by: Hindrance::Limit { kind },
-        };
-    }
-    match make_file(volume, alloc, name, bytes.as_slice()) {
+    match sis_copyclose::put(alloc, volume, name, bytes.as_slice()) {
         Ok(()) => Reply::Done,
         Err(by) => Reply::Hindered { by },
     }
@@ -132,7 +109,8 @@ fn space<D: Disk>(volume: &Volume<D>) -> Reply
 }
 
 fn end<D: Disk>(volume: &mut Volume<D>, alloc: Global) -> Reply
-    requires { volume.old.down ≡ None }
+    requires up { volume.old.down ≡ None }
+    requires table { IsTable volume.old.table }
     ensures decides { (client : ℕ) → Decides volume.old volume.new client command.End result }
     ensures stops { StopsWell volume.old volume.new }
     ensures durable { IsDurable volume.new command.End result }
@@ -147,7 +125,8 @@ fn end<D: Disk>(volume: &mut Volume<D>, alloc: Global) -> Reply
 }
 
 fn sync<D: Disk>(volume: &mut Volume<D>) -> Reply
-    requires { volume.old.down ≡ None }
+    requires up { volume.old.down ≡ None }
+    requires table { IsTable volume.old.table }
     ensures decides { (client : ℕ) → Decides volume.old volume.new client command.Sync result }
     ensures stops { StopsWell volume.old volume.new }
     ensures durable { IsDurable volume.new command.Sync result }
@@ -160,7 +139,8 @@ fn sync<D: Disk>(volume: &mut Volume<D>) -> Reply
 
 /// Carries out a client's command. Once a commit failed, each command is answered so.
 pub(crate) fn answer<D: Disk>(volume: &mut Volume<D>, alloc: Global, command: &Command) -> Reply
-    requires { MayRun command.now }
+    requires runs { MayRun command.now }
+    requires table { IsTable volume.old.table }
     ensures decides { (client : ℕ) → Decides volume.old volume.new client command.now result }
     ensures stops { StopsWell volume.old volume.new }
     ensures durable { IsDurable volume.new command.now result }

@@ -51,7 +51,6 @@ fn exec_lines<D: Disk, K: Sink>(
         Ok(history) => {
             let printed = print_history(alloc, &history, out);
             let is_down = volume.down().is_some();
-            let _ = volume.layout();
             Ended {
                 ending: Ending::Ran { printed, is_down },
                 history,

@@ -29,4 +29,5 @@ loop-line-preserved g c =
       runs =
           runs_rest c.loop-line.order.items c.pop.new.self.items c.in-Some.line
           c.in-Some.ensures.items c.loop-line.invariant.runs;
+      table = step.1.table;
     }

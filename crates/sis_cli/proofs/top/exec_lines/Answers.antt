@@ -9,7 +9,7 @@ returns-in-Ok-clause-runs g c before early =
     leaves_ran c.args.volume c.run_lines.new.volume (g.D.Disk.seen c.into_disk.result)
     c.args.lines.items c.in-Ok.history.entries _ (g.K.Sink.written c.args.out.now)
     (g.K.Sink.written c.print_history-printed.new.sink) c.print_history-printed.result
-    c.is_some-is_down.result early refl c.layout-in-Ok.ensures.good c.requires.clean c.requires.up
+    c.is_some-is_down.result early refl c.into_disk.ensures.good c.requires.clean c.requires.up
     c.in-Ok.ensures.ran c.in-Ok.ensures.stops c.in-Ok.ensures.order c.into_disk.ensures.seen
     c.into_disk.ensures.holds (c.is_some-is_down.ensures ∙ ap is_some c.down.ensures)
     c.print_history-printed.ensures.ok c.print_history-printed.ensures.err
