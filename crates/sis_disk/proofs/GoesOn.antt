@@ -3,8 +3,8 @@ use Rattle.std.proofs.Common.{◌≡◌, ◌⊎◌, inl, inr, ℕ, ◌+◌, ◌�
 use Rattle.std.specs.Prelude.{Result, Ok, Err}
 use Rattle.std.specs.Option.{option_map}
 use Rattle.std.proofs.lemmas.Bool.{le-ltb}
-use Rattle.sis_disk.specs.Causes.{fails_commit, NoneFails, LastFails, StaysUp, GoesDown}
-use Rattle.sis_disk.specs.Record.{Call, Reads, Writes, DiskRecord, Seen, Made, NotMade, Went, Rose, with_call}
+use Rattle.sis_disk.specs.Causes.{fails_commit, serves_commit, NoneFails, AllServe, LastFails, StaysUp, GoesWell, GoesDown}
+use Rattle.sis_disk.specs.Record.{Call, Reads, Writes, Syncs, DiskRecord, Seen, Made, NotMade, Went, Rose, with_call}
 use Rattle.sis_disk.specs.Stops.{GoesOnBy, Elapses, with_calls}
 
 -- ---- records
@@ -57,16 +57,6 @@ pub none_append : (first : ℕ) (xs ys : List Call) → NoneFails first xs → N
 none_append first [] ys a b = b
 none_append first (x ∷ xs) ys a b = (a.0, none_append first xs ys a.1 b)
 
-pub last_append : (first : ℕ) (xs ys : List Call) → NoneFails first xs → LastFails first ys
-    → LastFails first (xs ++ ys)
-last_append first xs ys a b = (
-  xs ++ b.0,
-  b.1,
-  ap (λ (cs : List Call). xs ++ cs) b.2 ∙ sym (append_assoc xs b.0 (b.1 ∷ [])),
-  none_append first xs b.0 a b.3,
-  b.4,
-)
-
 pub up_same : (first : ℕ) (old new : Seen) → new.told ≡ old.told → StaysUp first old new
 up_same first old new same =
     record { told = by_none (NoneFails first) old.told new.told tt same }
@@ -106,42 +96,95 @@ up_write first at bytes (Err e) old new behind went = elim went.err [
   | inr none ↦ up_same first old new none.told
 ]
 
+-- ---- calls that serve a commit
+
+pub serve_append : (first : ℕ) (xs ys : List Call) → AllServe first xs → AllServe first ys
+    → AllServe first (xs ++ ys)
+serve_append first [] ys a b = b
+serve_append first (x ∷ xs) ys a b = (a.0, serve_append first xs ys a.1 b)
+
+-- such a call doesn't fail one
+serves_none : (first : ℕ) (c : Call) → serves_commit first c ≡ true → fails_commit first c ≡ false
+serves_none first (Reads at len ok) e = refl
+serves_none first (Writes at bytes true) e = refl
+serves_none first (Writes at bytes false) e = absurd cc
+serves_none first (Syncs true) e = refl
+serves_none first (Syncs false) e = absurd cc
+
+all_none : (first : ℕ) (cs : List Call) → AllServe first cs → NoneFails first cs
+all_none first [] all = tt
+all_none first (c ∷ cs) all = (serves_none first c all.0, all_none first cs all.1)
+
+pub up_well : (first : ℕ) (old new : Seen) → GoesWell first old new → StaysUp first old new
+up_well first old new well = record {
+  told = by_weaker (AllServe first) (NoneFails first) old.told new.told (all_none first) well.told;
+}
+
+pub well_refl : (first : ℕ) (seen : Seen) → GoesWell first seen seen
+well_refl first seen = record { told = by_none (AllServe first) seen.told seen.told tt refl }
+
+pub well_trans : (first : ℕ) (old mid new : Seen) → GoesWell first old mid → GoesWell first mid new
+    → GoesWell first old new
+well_trans first old mid new a b = record {
+  told = by_trans (AllServe first) (AllServe first) (AllServe first) old.told mid.told new.told
+      (serve_append first) a.told b.told;
+}
+
+-- a call that was made
+pub well_made : (first : ℕ) (c : Call) (old new : Seen) → serves_commit first c ≡ true
+    → Made c old new → GoesWell first old new
+well_made first c old new serves made =
+    record { told = by_call (AllServe first) c old.told new.told (serves, tt) made.told }
+
 -- ---- calls of which the last one fails a commit
+
+pub last_append : (first : ℕ) (xs ys : List Call) → AllServe first xs → LastFails first ys
+    → LastFails first (xs ++ ys)
+last_append first xs ys a b = (
+  xs ++ b.0,
+  b.1,
+  ap (λ (cs : List Call). xs ++ cs) b.2 ∙ sym (append_assoc xs b.0 (b.1 ∷ [])),
+  serve_append first xs b.0 a b.3,
+  b.4,
+)
 
 -- a call that was made, or refused
 pub down_by : (first : ℕ) (c : Call) (old new : Seen) → fails_commit first c ≡ true
-    → Rose old.faults new.faults → Made c old new ⊎ NotMade old new
-    → GoesDown first old.calls old new
-down_by first c old new fails rose (inl made) = record {
+    → Rose old.faults new.faults → new.faults ≤ old.faults + 1
+    → Made c old new ⊎ NotMade old new → GoesDown first old.calls old new
+down_by first c old new fails rose once (inl made) = record {
   rose = rose;
+  once = once;
   low = omega arith;
   told = inl (
     made.calls,
     by_call (LastFails first) c old.told new.told ([], c, refl, tt, fails) made.told,
   );
 }
-down_by first c old new fails rose (inr none) = record {
+down_by first c old new fails rose once (inr none) = record {
   rose = rose;
+  once = once;
   low = omega arith;
-  told = inr (none.calls, by_none (NoneFails first) old.told new.told tt none.told);
+  told = inr (none.calls, by_none (AllServe first) old.told new.told tt none.told);
 }
 
--- calls that failed no commit, and then one that did
-pub up_down : (first at : ℕ) (old mid new : Seen) → Elapses old mid → StaysUp first old mid
-    → GoesDown first at mid new → GoesDown first at old new
-up_down first at old mid new elapses up down = record {
-  rose = (let rose = down.rose in let few = elapses.faults in omega arith);
+-- calls that served a commit, and then one that failed it
+pub well_down : (first at : ℕ) (old mid new : Seen) → Elapses old mid → mid.faults ≡ old.faults
+    → GoesWell first old mid → GoesDown first at mid new → GoesDown first at old new
+well_down first at old mid new elapses quiet well down = record {
+  rose = (let rose = down.rose in omega (arith, quiet));
+  once = (let once = down.once in omega (arith, quiet));
   low = omega (arith, elapses.calls, down.low);
   told = elim down.told [
     | inl made ↦ inl (
       made.0,
-      by_trans (NoneFails first) (LastFails first) (LastFails first) old.told mid.told new.told
-          (last_append first) up.told made.1,
+      by_trans (AllServe first) (LastFails first) (LastFails first) old.told mid.told new.told
+          (last_append first) well.told made.1,
     )
     | inr none ↦ inr (
       none.0,
-      by_trans (NoneFails first) (NoneFails first) (NoneFails first) old.told mid.told new.told
-          (none_append first) up.told none.1,
+      by_trans (AllServe first) (AllServe first) (AllServe first) old.told mid.told new.told
+          (serve_append first) well.told none.1,
     )
   ];
 }

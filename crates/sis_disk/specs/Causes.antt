@@ -15,10 +15,20 @@ fails_commit first (Syncs ok) = not ok
 abbrev pub NoneFails : ℕ → List Call → Type 0
 NoneFails first calls = AllByRecursion (λ c. fails_commit first c ≡ false) calls
 
--- the last of the calls does, and no call before it
+-- the call went well, and is one of a commit
+abbrev pub serves_commit : ℕ → Call → Bool
+serves_commit first (Reads at len ok) = false
+serves_commit first (Writes at bytes ok) = ok && nat_lt at first
+serves_commit first (Syncs ok) = ok
+
+-- each of the calls does
+abbrev pub AllServe : ℕ → List Call → Type 0
+AllServe first calls = AllByRecursion (λ c. serves_commit first c ≡ true) calls
+
+-- the last of the calls fails a commit, and each call before it serves one
 abbrev pub LastFails : ℕ → List Call → Type 0
 LastFails first calls =
-    (front : List Call) × (last : Call) × (calls ≡ front ++ last ∷ []) × NoneFails first front
+    (front : List Call) × (last : Call) × (calls ≡ front ++ last ∷ []) × AllServe first front
     × (fails_commit first last ≡ true)
 
 -- No call from old to new failed a commit, where the disk tells its calls. A call that failed is a
@@ -26,10 +36,15 @@ LastFails first calls =
 pub record StaysUp (first : ℕ) (old new : Seen) : Type 0 where
   pub told : GoesOnBy (NoneFails first) old.told new.told
 
--- The first call that failed a commit is call `at`, the last of all; or the disk refused a call
--- when so many calls had been made, and none had failed a commit.
+-- Each call from old to new went well and is one of a commit, where the disk tells its calls.
+pub record GoesWell (first : ℕ) (old new : Seen) : Type 0 where
+  pub told : GoesOnBy (AllServe first) old.told new.told
+
+-- A commit failed, and one call alone: call `at`, the last of all; or a call that the disk refused
+-- when so many calls had been made. Each other call went well and is one of a commit.
 pub record GoesDown (first at : ℕ) (old new : Seen) : Type 0 where
   pub rose : Rose old.faults new.faults
+  pub once : new.faults ≤ old.faults + 1
   pub low : old.calls ≤ at
   pub told : ((new.calls ≡ at + 1) × GoesOnBy (LastFails first) old.told new.told)
-      ⊎ ((new.calls ≡ at) × GoesOnBy (NoneFails first) old.told new.told)
+      ⊎ ((new.calls ≡ at) × GoesOnBy (AllServe first) old.told new.told)
