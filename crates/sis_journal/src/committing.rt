@@ -1,7 +1,7 @@
 //! The steps of a commit. Each is a write and a sync.
 ghost use Rattle.std.specs.Prelude.{◌≡◌, ◌==◌, ℕ, ◌+◌, ◌*◌, ◌<◌, ◌≤◌, [], List, length, not, Some, OnOk, OnErr, IfErr};
 ghost use Rattle.sis_disk.specs.Areas.{area_bytes};
-ghost use Rattle.sis_disk.specs.Causes.{GoesDown, StaysUp};
+ghost use Rattle.sis_disk.specs.Causes.{GoesDown, GoesWell};
 ghost use Rattle.sis_disk.specs.Layout.{IsLayout, first_byte, table_cap};
 ghost use Rattle.sis_disk.specs.Record.{DiskRecord, State, live_of, state_of};
 ghost use Rattle.sis_disk.specs.Stops.{Elapses, Leaves, Now};
@@ -16,8 +16,8 @@ use sis_disk::{BLOCK_LEN, Disk, Layout};
 pub fn write_stable<D: Disk>(disk: &mut D, at: u64, bytes: &[u8]) -> Result<(), CommitFault>
     requires { at + length bytes.now ≤ (D.seen disk.old).size }
     ensures written { WritesStable at bytes.now result (D.seen disk.old) (D.seen disk.new) }
-    ensures up { (first : ℕ)
-        → OnOk result (StaysUp first (D.seen disk.old) (D.seen disk.new)) }
+    ensures well { (first : ℕ) → at < first
+        → OnOk result (GoesWell first (D.seen disk.old) (D.seen disk.new)) }
     ensures down { (first : ℕ) → at < first → IfErr result
         (λ fault. (call : ℕ) × (fault ≡ CommitFault.Down call)
         × GoesDown first call (D.seen disk.old) (D.seen disk.new)) }
@@ -59,8 +59,8 @@ pub fn write_area<D: Disk>(
         → Now (IsReady layout.now second old new (state_of r)) (D.seen disk.new)) }
     ensures rest { Both (KeepsRest layout.now second)
         (live_of (D.seen disk.old)) (live_of (D.seen disk.new)) }
-    ensures up { OnOk result
-        (StaysUp (first_byte layout.now) (D.seen disk.old) (D.seen disk.new)) }
+    ensures well { OnOk result
+        (GoesWell (first_byte layout.now) (D.seen disk.old) (D.seen disk.new)) }
     ensures down { IfErr result
         (λ fault. (call : ℕ) × (fault ≡ CommitFault.Down call)
         × GoesDown (first_byte layout.now) call (D.seen disk.old) (D.seen disk.new)) }
@@ -93,8 +93,8 @@ pub fn select_other<D: Disk>(disk: &mut D, layout: &Layout, second: bool) -> Res
         (D.seen disk.new)) }
     ensures rest { Both (KeepsRest layout.now second)
         (live_of (D.seen disk.old)) (live_of (D.seen disk.new)) }
-    ensures up { OnOk result
-        (StaysUp (first_byte layout.now) (D.seen disk.old) (D.seen disk.new)) }
+    ensures well { OnOk result
+        (GoesWell (first_byte layout.now) (D.seen disk.old) (D.seen disk.new)) }
     ensures down { IfErr result
         (λ fault. (call : ℕ) × (fault ≡ CommitFault.Down call)
         × GoesDown (first_byte layout.now) call (D.seen disk.old) (D.seen disk.new)) }

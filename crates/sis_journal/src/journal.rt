@@ -1,7 +1,7 @@
 //! A journal: opened from a disk, and committed to it.
 ghost use Rattle.std.specs.Prelude.{◌≡◌, ℕ, ◌+◌, ◌*◌, ◌<◌, ◌≤◌, [], List, Ok, Some, length, not, IfOk, IfErr, IfSome, IsErrOf, OnOk, OnErr};
 ghost use Rattle.sis_disk.specs.Areas.{read_by};
-ghost use Rattle.sis_disk.specs.Causes.{GoesDown, StaysUp};
+ghost use Rattle.sis_disk.specs.Causes.{GoesDown, GoesWell};
 ghost use Rattle.sis_disk.specs.Layout.{IsLayout, first_byte, table_cap};
 ghost use Rattle.sis_disk.specs.Record.{DiskRecord, live_of, state_of};
 ghost use Rattle.sis_disk.specs.Stops.{Elapses, Leaves, Now};
@@ -121,10 +121,10 @@ impl Journal {
         ensures rest { Both (KeepsRest self.old.layout self.old.second)
             (live_of (D.seen disk.old)) (live_of (D.seen disk.new)) }
 
-        // Only the disk makes it fail. The fault names the first call that failed, or was refused: one
-        // of the four, which no made call follows.
-        ensures up { OnOk result
-            (StaysUp (first_byte self.old.layout) (D.seen disk.old) (D.seen disk.new)) }
+        // Only the disk makes it fail. The fault names the one call that failed, or was refused: it
+        // is one of the four, and no made call follows it. Each other call went well.
+        ensures well { OnOk result
+            (GoesWell (first_byte self.old.layout) (D.seen disk.old) (D.seen disk.new)) }
         ensures down { IfErr result
             (λ fault. (call : ℕ) × (fault ≡ CommitFault.Down call)
             × GoesDown (first_byte self.old.layout) call (D.seen disk.old) (D.seen disk.new)) }

@@ -3,7 +3,7 @@ use Rattle.sis_disk.specs.Areas.{area_bytes}
 use Rattle.sis_disk.specs.Record.{live_of, state_of}
 use Rattle.sis_disk.specs.Causes.{GoesDown}
 use Rattle.sis_disk.specs.Layout.{first_byte}
-use Rattle.sis_disk.proofs.GoesOn.{up_down, up_trans}
+use Rattle.sis_disk.proofs.GoesOn.{well_down, well_trans}
 use Rattle.sis_disk.proofs.Images.{leaves_trans, leaves_weaker}
 use Rattle.sis_journal.specs.declared.fault.CommitFault.TheVariants.{Down}
 use Rattle.sis_journal.proofs.Readings.{passed_on}
@@ -56,11 +56,11 @@ returns-clause-rest g c =
     rw (← c.self.view_is) (rest_trans c.self.inside.layout c.self.invariant.0 c.self.inside.second (live_of (g.D.Disk.seen c.args.disk.now)) (live_of (g.D.Disk.seen c.write_area.new.disk)) (live_of (g.D.Disk.seen c.select_other.new.disk))
     c.write_area.ensures.rest c.select_other.ensures.rest)
 
-pub returns-clause-up : goal.returns-clause-up
-returns-clause-up g c =
-    rw (← c.self.view_is) (up_trans (first_byte c.self.inside.layout) (g.D.Disk.seen c.args.disk.now)
+pub returns-clause-well : goal.returns-clause-well
+returns-clause-well g c =
+    rw (← c.self.view_is) (well_trans (first_byte c.self.inside.layout) (g.D.Disk.seen c.args.disk.now)
     (g.D.Disk.seen c.write_area.new.disk) (g.D.Disk.seen c.select_other.new.disk)
-    c.in_ok-write_area.ensures.up c.in_ok-select_other.ensures.up)
+    c.in_ok-write_area.ensures.well c.in_ok-select_other.ensures.well)
 
 pub returns-in_err-select_other-clause-down : goal.returns-in_err-select_other-clause-down
 returns-in_err-select_other-clause-down g c = rw (← c.self.view_is) (
@@ -74,8 +74,8 @@ returns-in_err-select_other-clause-down g c = rw (← c.self.view_is) (
     c.from_residual-in_err-select_other.ensures.1 (
       down.0,
       down.1,
-      up_down first down.0 old mid new c.write_area.ensures.elapses
-          c.in_ok-write_area.ensures.up down.2,
+      well_down first down.0 old mid new c.write_area.ensures.elapses
+          c.in_ok-write_area.ensures.quiet c.in_ok-write_area.ensures.well down.2,
     ))
 
 pub returns-in_err-write_area-clause-number : goal.returns-in_err-write_area-clause-number
