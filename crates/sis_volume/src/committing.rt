@@ -1,7 +1,7 @@
 //! Commits: the journal makes the current table the one that the image holds.
 ghost use Rattle.std.specs.Prelude.{◌≡◌, ℕ, ◌+◌, ◌<◌, ◌≤◌, drop, false, true, None, Some, Err, IfSome, IsOk, OnOk, OnErr, IfErr, []};
 ghost use Rattle.std.specs.Option.{option_map};
-ghost use Rattle.sis_disk.specs.Causes.{GoesDown, StaysUp};
+ghost use Rattle.sis_disk.specs.Causes.{GoesDown, GoesWell};
 ghost use Rattle.sis_disk.specs.Layout.{first_byte};
 ghost use Rattle.sis_disk.specs.Record.{live_of};
 ghost use Rattle.sis_disk.specs.Stops.{Elapses, Now};
@@ -28,10 +28,10 @@ impl<D: Disk> Volume<D> {
         ensures unchanged { self.old.down ≡ None → self.old.is_changed ≡ false
             → IsOk result × (self.new ≡ self.old) }
 
-        // An error is the first call that failed, or was refused: one of the four, which no made call
-        // follows. From then on each commit gives it again.
-        ensures up { OnOk result
-            (StaysUp (first_byte self.old.table.layout) self.old.seen self.new.seen) }
+        // An error is the one call that failed, or was refused: one of the four, which no made call
+        // follows. Each other call went well. From then on each commit gives it again.
+        ensures well { OnOk result
+            (GoesWell (first_byte self.old.table.layout) self.old.seen self.new.seen) }
         ensures err { OnErr result (self.new ≡ record self.old {
           seen = self.new.seen;
           down = self.new.down;

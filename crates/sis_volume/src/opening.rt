@@ -5,6 +5,7 @@ ghost use Rattle.sis_journal.specs.Opening.{Caused, CountsFault, IsSynced, SyncT
 ghost use Rattle.sis_journal.specs.declared.fault.OpenFault.TheVariants as faults;
 ghost use Rattle.sis_table.specs.Good.{IsGood};
 ghost use Rattle.sis_table.specs.Image.{image_at};
+ghost use Rattle.sis_table.specs.Volume.{used_places};
 ghost use Rattle.sis_volume.specs.Invariant.{IsVolume};
 ghost use Rattle.sis_volume.specs.Opening.{FailsAs};
 ghost use Rattle.sis_volume.specs.Stopping.{OpensTable};
@@ -82,6 +83,7 @@ impl<D: Disk> Volume<D> {
         ensures log { IfOk result (λ v. v.table.layout.log ≡ 0) }
         ensures changed { IfOk result (λ v. v.is_changed ≡ false) }
         ensures down { IfOk result (λ v. v.down ≡ None) }
+        ensures held { IfOk result (λ v. v.committed ≡ used_places v.table) }
 
         // A refusal names the image's first fault, or its table's first defect, unless the disk
         // failed or memory ran out.

@@ -1,7 +1,7 @@
 //! How much room a volume has.
 ghost use Rattle.std.specs.Prelude.{◌≡◌, ◌⊎◌, ◌+◌, ◌<◌, ◌≤◌, drop, length, Err, None, IfErr, IfSome, IsOk, OnOk, OnErr};
 ghost use Rattle.std.specs.Option.{option_map};
-ghost use Rattle.sis_disk.specs.Causes.{StaysUp};
+ghost use Rattle.sis_disk.specs.Causes.{GoesWell};
 ghost use Rattle.sis_disk.specs.Layout.{data_blocks, first_byte};
 ghost use Rattle.sis_disk.specs.Record.{live_of};
 ghost use Rattle.sis_disk.specs.Stops.{Elapses};
@@ -62,10 +62,10 @@ impl<D: Disk> Volume<D> {
         ensures cause { self.old.down ≡ None
             → IfErr result (HindersRoom needed self.old self.new) }
 
-        // No call fails a commit unless it is told. At every moment a stop leaves what it left before,
-        // or the files of now. The data blocks stay as they are.
-        ensures up { OnOk result
-            (StaysUp (first_byte self.old.table.layout) self.old.seen self.new.seen) }
+        // No call fails unless that is told, and each is one of a commit. At every moment a stop
+        // leaves what it left before, or the files of now. The data blocks stay as they are.
+        ensures well { OnOk result
+            (GoesWell (first_byte self.old.table.layout) self.old.seen self.new.seen) }
         ensures quiet { OnOk result (self.new.seen.faults ≡ self.old.seen.faults) }
         ensures images { self.old.down ≡ None
             → MayCommit self.old.table self.old.seen self.new.seen }

@@ -1,8 +1,9 @@
 //! A disk with its table, and which of its data blocks are mapped.
-ghost use Rattle.std.specs.Prelude.{◌≡◌, ◌*◌, length, false, None, IfSome};
+ghost use Rattle.std.specs.Prelude.{◌≡◌, ◌*◌, ◌≤◌, length, false, None, IfSome};
 ghost use Rattle.std.specs.Option.{option_copied, option_map};
 ghost use Rattle.sis_disk.specs.Layout.{IsLayout, data_blocks, table_cap};
 ghost use Rattle.sis_table.specs.Good.{IsGood};
+ghost use Rattle.sis_table.specs.Spelling.{spelling};
 ghost use Rattle.sis_table.specs.Volume.{IsNextFile, IsNextNode, IsTable, node_named, node_with, id_of};
 ghost use Rattle.sis_table.specs.Image.{Holds};
 ghost use Rattle.sis_disk.specs.Record.{live_of};
@@ -87,6 +88,7 @@ impl<D: Disk> Volume<D> {
         ensures table { IsTable self.now.table }
         ensures good { IsGood self.now.table }
         ensures size { self.now.seen.size ≡ 4096 * result.total }
+        ensures fits { length (spelling self.now.table) ≤ table_cap result }
     {
         self.kept.layout()
     }
