@@ -100,24 +100,35 @@ module _ (old : VolumeView) (file size at count : ℕ) (plan : Plan) (up : old.d
         readied_then (need_of n size at count) 0 (plan.ends + reads_around n at count) (change_reads n size at count) old mid later
         (omega (arith, p.ends)) up one works
 
-    pub memory_of : Short later hindrance.Memory
-    memory_of =
+    pub memory_of : later.seen.faults ≡ old.seen.faults → Short later hindrance.Memory
+    memory_of still =
         there_map (node_with old.table file) _ _ (λ n is p.
         memory_short (need_of n size at count) (IsWithResize old.table n (Some (resize_by n size at count)))
         (most_of n size at count) old later
-        (readied_wider (need_of n size at count) (change_reads n size at count) (most_of n size at count) old later (omega arith) (read_ready n is p))) planned
+        (readied_wider (need_of n size at count) (change_reads n size at count) (most_of n size at
+        count)
+        old later (omega arith) (read_ready n is p)) still) planned
 
     pub text_short : (by : Hindrance) → plan.version < greatest_number
         → IsUnhindered old.table (blocks_alone (plan.ends + plan.count))
-        → HindersReading mid.seen later.seen by → Short later by
-    text_short by low fits cause =
+        → mid.seen.faults ≡ old.seen.faults
+        → IfThere (node_with mid.table file)
+        (λ n. HindersReading (plan.ends + reads_around n at count) mid.seen later.seen by)
+        → Short later by
+    text_short by low fits still cause =
         there_map (node_with old.table file) _ _ (λ n is p.
         let one = room (need_of n size at count) (plan_len n size at count plan p) in
         work_short (need_of n size at count) (IsWithResize old.table n (Some (resize_by n size at count)))
         (most_of n size at count) old later
         (readied_wider (need_of n size at count) (change_reads n size at count) (most_of n size at count) old later (omega arith) (read_ready n is p)) by
         (unhindered_by old.table (need_of n size at count) (plan.ends + plan.count) (asks n low p) (plan_len n size at count plan p) fits)
-        (reading_wider old.seen mid.seen later.seen later.seen by one.elapses.faults (omega arith) cause)) planned
+        (reading_wider (plan.ends + reads_around n at count) (most_of n size at count)
+        old.seen mid.seen later.seen by (omega (arith, p.ends)) still
+        (there_has (node_with old.table file) n
+        (λ m. HindersReading (plan.ends + reads_around m at count) mid.seen later.seen by) is
+        (subst (λ (v : VolumeTable). IfThere (node_with v file)
+        (λ m. HindersReading (plan.ends + reads_around m at count) mid.seen later.seen by))
+        one.table cause)))) planned
 
     pub change_ready : (new : VolumeView) → Works (plan.ends + plan.count) later new
         → IfThere (node_with old.table file) (λ n. Readies (need_of n size at count) (most_of n size at count) old new)
@@ -129,12 +140,15 @@ module _ (old : VolumeView) (file size at count : ℕ) (plan : Plan) (up : old.d
     pub stage_short : (new : VolumeView) (by : Hindrance) → Works (plan.ends + plan.count) later new
         → plan.version < greatest_number
         → IsUnhindered old.table (blocks_alone (plan.ends + plan.count))
-        → HindersReading later.seen new.seen by → Short new by
-    stage_short new by works low fits cause =
+        → later.seen.faults ≡ old.seen.faults
+        → HindersReading (plan.ends + plan.count) later.seen new.seen by → Short new by
+    stage_short new by works low fits still cause =
         there_map (node_with old.table file) _ _ (λ n is p.
         let ready = readied_then (need_of n size at count) (change_reads n size at count) (plan.ends + plan.count) (most_of n size at count) old later new
         (omega (arith, plan_len n size at count plan p)) up (read_ready n is p) works in
         work_short (need_of n size at count) (IsWithResize old.table n (Some (resize_by n size at count)))
         (most_of n size at count) old new ready by
         (unhindered_by old.table (need_of n size at count) (plan.ends + plan.count) (asks n low p) (plan_len n size at count plan p) fits)
-        (reading_wider old.seen later.seen new.seen new.seen by (read_ready n is p).elapses.faults (omega arith) cause)) planned
+        (reading_wider (plan.ends + plan.count) (most_of n size at count)
+        old.seen later.seen new.seen by (omega (arith, plan_len n size at count plan p)) still
+        cause)) planned

@@ -4,9 +4,9 @@ use Rattle.std.specs.Prelude.{IfErr, IfSome, IsOk, OnOk, Ok, Err, Result}
 use Rattle.std.specs.Option.{option_map}
 use Rattle.std.proofs.lemmas.Bool.{cases_lt}
 use Rattle.std.proofs.lemmas.Bool.Decides.{nat_tests}
-use Rattle.sis_disk.specs.Causes.{StaysUp}
+use Rattle.sis_disk.specs.Causes.{GoesWell}
 use Rattle.sis_disk.specs.Stops.{Elapses}
-use Rattle.sis_disk.proofs.GoesOn.{up_refl}
+use Rattle.sis_disk.proofs.GoesOn.{up_refl, up_well}
 use Rattle.sis_disk.specs.Layout.{data_blocks, first_byte}
 use Rattle.sis_disk.specs.Record.{live_of}
 use Rattle.sis_history.specs.Needs.{Need, hindrance_of}
@@ -60,9 +60,9 @@ module _ (blocks : ℕ) (old new : VolumeView) (up : old.down ≡ None) (is_tabl
   few_calls need lacks = omega (arith, calls, four_calls need old lacks)
 
   lacked_ready : (need : Need) → LacksRoom need old → (new ≡ old) ⊎ IsCommitted old new
-      → StaysUp (first_byte old.table.layout) old.seen new.seen → StopsWell old new
+      → GoesWell (first_byte old.table.layout) old.seen new.seen → StopsWell old new
       → Readies need 0 old new
-  lacked_ready need lacks how stays stops = record {
+  lacked_ready need lacks how went stops = record {
     table = table;
     books =
         ⊎_elim (λ same. inl (subst (λ (v : VolumeView). v ≡ record old { seen = v.seen }) (sym same) refl))
@@ -70,7 +70,7 @@ module _ (blocks : ℕ) (old new : VolumeView) (up : old.down ≡ None) (is_tabl
     up = record {
       down =
           ⊎_elim (λ same. ap (λ (v : VolumeView). v.down) same ∙ up) (λ done. done.up) how;
-      calls = stays;
+      calls = up_well (first_byte old.table.layout) old.seen new.seen went;
     };
     stops = stops;
     still = λ le. lacks_not need old _ lacks le;
@@ -78,6 +78,7 @@ module _ (blocks : ℕ) (old new : VolumeView) (up : old.down ≡ None) (is_tabl
     places = places;
     elapses = elapses;
     calls = few_calls need lacks;
+    idle = λ none. lacks_not need old _ lacks (omega (arith, none));
   }
 
   module _ {T : Type 0} (r : Result T Hindrance)
@@ -101,17 +102,17 @@ module _ (blocks : ℕ) (old new : VolumeView) (up : old.down ≡ None) (is_tabl
             (λ lt. absurd (let e = (full up lt).0 in cc))
         by (Err h) full = tt
 
-    pub room_ready : OnOk r (StaysUp (first_byte old.table.layout) old.seen new.seen)
+    pub room_ready : OnOk r (GoesWell (first_byte old.table.layout) old.seen new.seen)
         → OnOk r ((need : Need) → need.blocks ≡ blocks → Readies need 0 old new)
     room_ready = by r ok enough stops
       where
         by : (r : Result T Hindrance) → OnOk r ((new ≡ old) ⊎ IsCommitted old new)
             → (old.down ≡ None → blocks ≤ spare old → IsOk r × (new ≡ old)) → StopsWell old new
-            → OnOk r (StaysUp (first_byte old.table.layout) old.seen new.seen)
+            → OnOk r (GoesWell (first_byte old.table.layout) old.seen new.seen)
             → OnOk r ((need : Need) → need.blocks ≡ blocks → Readies need 0 old new)
-        by (Err h) ok enough well stays = tt
-        by (Ok x) ok enough well stays = λ need same. elim (cases_lt (spare old) blocks) [
-          | inl lt ↦ lacked_ready need (omega (arith, lt, same)) ok stays well
+        by (Err h) ok enough well went = tt
+        by (Ok x) ok enough well went = λ need same. elim (cases_lt (spare old) blocks) [
+          | inl lt ↦ lacked_ready need (omega (arith, lt, same)) ok went well
           | inr le ↦
               subst (λ (v : VolumeView). Readies need 0 old v) (sym (enough up le).1)
               (readied_none need old up)
@@ -145,7 +146,8 @@ module _ (blocks : ℕ) (old new : VolumeView) (up : old.down ≡ None) (is_tabl
             ∙ alone_full old.table blocks is_table lt
             ∙ ap (λ (h : Hindrance). Some h) (sym is) in
             subst (λ (v : VolumeView). GivesUp need NoTable 0 old v (hindrance.Full needed mapped total)) (sym why.same)
-            (refused need NoTable 0 old (hindrance.Full needed mapped total) up (met, refl)
+            (refused need NoTable 0 old (hindrance.Full needed mapped total) up (λ e. absurd cc)
+            (met, refl)
             (record { down = up; calls = up_refl (first_byte old.table.layout) old.seen }))
         by (Err (hindrance.Down at)) enough full cause well = λ need same asks.
             let went = cause up in
@@ -167,9 +169,11 @@ module _ (blocks : ℕ) (old new : VolumeView) (up : old.down ≡ None) (is_tabl
                 lacks,
                 went,
               );
+              needed = λ e. absurd cc;
               stops = well;
               still = λ le. lacks_not need old _ lacks le;
               goes = record { down = went.down; calls = went.failed };
               elapses = elapses;
               calls = few_calls need lacks;
+              idle = λ none. lacks_not need old _ lacks (omega (arith, none));
             }

@@ -56,7 +56,8 @@ module _ (MayLead : VolumeTable → Type 0) (change : Files → Files) (old new 
       → Operates no_need MayLead change 0 r old new
   edit_applied r ok err cause =
       applied no_need MayLead change 0 old old new (edited_by old.table edits) up
-      (asks_none old.table table) (readied_none no_need old up) r (old.is_changed || is_edit edits) ok err cause
+      (asks_none old.table table) (readied_none no_need old up) refl r
+      (old.is_changed || is_edit edits) ok err cause
       (or_right old.is_changed (is_edit edits) (ap is_edit only)) leads_by
       (files_changed old.table (edited_by old.table edits) change (live_of old.seen) (live_of old.seen)
       (places_refl old.table (live_of old.seen))
@@ -69,7 +70,8 @@ module _ (MayLead : VolumeTable → Type 0) (change : Files → Files) (old new 
       → Operates no_need MayLead change 0 q old new
   edit_short r by q is passed err cause =
       applied_err no_need MayLead change 0 old old new (edited_by old.table edits) up
-      (asks_none old.table table) (readied_none no_need old up) r by q is passed err cause leads_by
+      (asks_none old.table table) (readied_none no_need old up) refl r by q is passed err cause
+      leads_by
 
 -- there was no memory for it
 pub no_memory : {T : Type 0} (MayLead : VolumeTable → Type 0) (change : Files → Files)
@@ -77,7 +79,7 @@ pub no_memory : {T : Type 0} (MayLead : VolumeTable → Type 0) (change : Files 
     → IsErrAnd q (λ h. h ≡ hindrance.Memory) → Operates no_need MayLead change 0 q v v
 no_memory MayLead change v q up passed =
     failed_by no_need MayLead change 0 q v v hindrance.Memory up passed
-    (memory_short no_need MayLead 0 v v (readied_none no_need v up))
+    (memory_short no_need MayLead 0 v v (readied_none no_need v up) refl)
 
 -- ---- a removal, and another name
 
@@ -109,6 +111,7 @@ nothing_done {T = T} MayLead change reads v x up table leads files = record {
   changed = inl refl;
   held = inl refl;
   cause = λ was. tt;
+  needed = λ e. absurd cc;
   limit = λ was h met. absurd (let e = sym (asks_none v.table table) ∙ met in cc);
   down = never_down {T = T} (Ok x) v v up;
   places = places_refl v.table (live_of v.seen);
@@ -118,6 +121,8 @@ nothing_done {T = T} MayLead change reads v x up table leads files = record {
   goes = λ was. tt;
   elapses = record { size = refl; calls = omega arith; faults = omega arith };
   calls = omega arith;
+  idle = λ none. refl;
+  quiet = refl;
 }
   where
     unchanged : (live : Option (List ℕ))

@@ -60,6 +60,7 @@ was_down {T = T} need MayLead change reads v at is = record {
   changed = tt;
   held = tt;
   cause = λ up. absurd (let e = sym up ∙ is in cc);
+  needed = λ e. absurd cc;
   limit = λ up. absurd (let e = sym up ∙ is in cc);
   down = answered_down {T = T} (Err (hindrance.Down at)) v v at is refl refl;
   places = places_refl v.table (live_of v.seen);
@@ -69,6 +70,8 @@ was_down {T = T} need MayLead change reads v at is = record {
   goes = λ up. absurd (let e = sym up ∙ is in cc);
   elapses = record { size = refl; calls = omega arith; faults = omega arith };
   calls = omega arith;
+  idle = λ none. refl;
+  quiet = tt;
 }
 
 -- the first limit is what is answered
@@ -88,6 +91,10 @@ limit_by need MayLead old new (hindrance.TableFull needed cap) cause h is =
     absurd (let e = sym cause.0 ∙ is in cc)
 limit_by need MayLead old new hindrance.Memory cause h is = inr refl
 
+err_disk : {T : Type 0} (by : Hindrance)
+    → ◌≡◌ {A = Result T Hindrance} (Err by) (Err hindrance.Disk) → by ≡ hindrance.Disk
+err_disk by e = cc
+
 -- it gave up
 pub failed : {T : Type 0} (need : Need) (MayLead : VolumeTable → Type 0) (change : Files → Files)
     (reads : ℕ) (old new : VolumeView) (by : Hindrance) → old.down ≡ None
@@ -103,6 +110,7 @@ failed {T = T} need MayLead change reads old new by up h = record {
   changed = tt;
   held = tt;
   cause = λ still. h.cause;
+  needed = λ e. (let some = h.needed (err_disk {T = T} by e) in omega (arith, some));
   limit = λ still x is. limit_by need MayLead old new by h.cause x is;
   down = never_down {T = T} (Err by) old new up;
   places = h.places;
@@ -112,6 +120,8 @@ failed {T = T} need MayLead change reads old new by up h = record {
   goes = λ still. h.goes;
   elapses = h.elapses;
   calls = h.calls;
+  idle = λ none. h.idle (omega (arith, none));
+  quiet = tt;
 }
 
 -- an error that is passed on
@@ -132,19 +142,21 @@ lacks_not need v P lt le = absurd (omega (arith, lt, le))
 
 -- nothing was done, and so nothing changed
 pub refused : (need : Need) (MayLead : VolumeTable → Type 0) (most : ℕ) (v : VolumeView)
-    (by : Hindrance) → v.down ≡ None → Hinders need MayLead v v by → EndsBy v v by
-    → GivesUp need MayLead most v v by
-refused need MayLead most v by up cause ends = record {
+    (by : Hindrance) → v.down ≡ None → (by ≡ hindrance.Disk → ⊥) → Hinders need MayLead v v by
+    → EndsBy v v by → GivesUp need MayLead most v v by
+refused need MayLead most v by up other cause ends = record {
   table = refl;
   books = inl refl;
   files = refl;
   places = places_refl v.table (live_of v.seen);
   cause = cause;
+  needed = λ e. absurd (other e);
   stops = stops_none v;
   still = λ le. only_none v.seen;
   goes = ends;
   elapses = record { size = refl; calls = omega arith; faults = omega arith };
   calls = omega arith;
+  idle = λ none. refl;
 }
 
 -- a limit is met
@@ -152,7 +164,7 @@ pub limit_refused : (need : Need) (MayLead : VolumeTable → Type 0) (most : ℕ
     (kind : LimitKind) → v.down ≡ None → hindrance_of v.table need ≡ Some (hindrance.Limit kind)
     → GivesUp need MayLead most v v (hindrance.Limit kind)
 limit_refused need MayLead most v kind up is =
-    refused need MayLead most v (hindrance.Limit kind) up (is, refl)
+    refused need MayLead most v (hindrance.Limit kind) up (λ e. absurd cc) (is, refl)
     (record { down = up; calls = up_refl (first_byte v.table.layout) v.seen })
 
 module _ (need : Need) (MayLead : VolumeTable → Type 0) (most : ℕ) (old new : VolumeView)
@@ -167,29 +179,33 @@ module _ (need : Need) (MayLead : VolumeTable → Type 0) (most : ℕ) (old new 
       (λ made. inr made) ready.books
 
   -- what went by was right, and the error says why
-  pub gave_up : (by : Hindrance) → Hinders need MayLead old new by → EndsBy old new by
-      → GivesUp need MayLead most old new by
-  gave_up by cause ends = record {
+  pub gave_up : (by : Hindrance) → (by ≡ hindrance.Disk → 1 ≤ need.blocks + most)
+      → Hinders need MayLead old new by → EndsBy old new by → GivesUp need MayLead most old new by
+  gave_up by needed cause ends = record {
     table = ready.table;
     books = books_kept;
     files = ready.files;
     places = ready.places;
     cause = cause;
+    needed = needed;
     stops = ready.stops;
     still = ready.still;
     goes = ends;
     elapses = ready.elapses;
     calls = ready.calls;
+    idle = ready.idle;
   }
 
-  pub memory_short : GivesUp need MayLead most old new hindrance.Memory
-  memory_short = gave_up hindrance.Memory tt ready.up
+  pub memory_short : new.seen.faults ≡ old.seen.faults
+      → GivesUp need MayLead most old new hindrance.Memory
+  memory_short quiet = gave_up hindrance.Memory (λ e. absurd cc) quiet ready.up
 
   -- reading or staging failed
   pub work_short : (by : Hindrance) → IsUnhindered old.table need
-      → HindersReading old.seen new.seen by → GivesUp need MayLead most old new by
-  work_short hindrance.Memory free cause = memory_short
-  work_short hindrance.Disk free cause = gave_up hindrance.Disk (free, cause) ready.up
+      → HindersReading most old.seen new.seen by → GivesUp need MayLead most old new by
+  work_short hindrance.Memory free cause = memory_short cause
+  work_short hindrance.Disk free cause =
+      gave_up hindrance.Disk (λ e. omega (arith, cause.0)) (free, cause.1, cause.2) ready.up
   work_short (hindrance.TableFull needed cap) free cause = absurd cause
   work_short (hindrance.Limit kind) free cause = absurd cause
   work_short (hindrance.Full needed mapped total) free cause = absurd cause
@@ -198,9 +214,9 @@ module _ (need : Need) (MayLead : VolumeTable → Type 0) (most : ℕ) (old new 
 -- over more calls, or for more tables
 hinders_any : (need : Need) (MayLead : VolumeTable → Type 0) (old new : VolumeView)
     (by : Hindrance) → Hinders need NoTable old new by → Hinders need MayLead old new by
-hinders_any need MayLead old new hindrance.Memory h = tt
+hinders_any need MayLead old new hindrance.Memory h = h
 hinders_any need MayLead old new hindrance.Disk h = h
-hinders_any need MayLead old new (hindrance.TableFull needed most) h = absurd h.1.1
+hinders_any need MayLead old new (hindrance.TableFull needed most) h = absurd h.2.1
 hinders_any need MayLead old new (hindrance.Limit kind) h = h
 hinders_any need MayLead old new (hindrance.Full needed mapped total) h = h
 hinders_any need MayLead old new (hindrance.Down at) h = h
@@ -214,11 +230,13 @@ gives_up_wider need MayLead m most old new by few h = record {
   files = h.files;
   places = h.places;
   cause = hinders_any need MayLead old new by h.cause;
+  needed = λ e. (let some = h.needed e in omega (arith, some, few));
   stops = h.stops;
   still = h.still;
   goes = h.goes;
   elapses = h.elapses;
   calls = omega (arith, few, h.calls);
+  idle = λ none. h.idle (omega (arith, few, none));
 }
 
 pub gives_up_longer : (need : Need) (MayLead : VolumeTable → Type 0) (m most : ℕ)
@@ -230,11 +248,13 @@ gives_up_longer need MayLead m most old new by few h = record {
   files = h.files;
   places = h.places;
   cause = h.cause;
+  needed = λ e. (let some = h.needed e in omega (arith, some, few));
   stops = h.stops;
   still = h.still;
   goes = h.goes;
   elapses = h.elapses;
   calls = omega (arith, few, h.calls);
+  idle = λ none. h.idle (omega (arith, few, none));
 }
 
 -- an error that is passed on
@@ -247,7 +267,8 @@ given_up (Err h) by P is p = subst P (sym is) p
 
 module _ (need : Need) (MayLead : VolumeTable → Type 0) (change : Files → Files) (reads : ℕ)
     (old mid new : VolumeView) (edited : VolumeTable) (up : old.down ≡ None)
-    (free : IsUnhindered old.table need) (ready : Readies need (need.blocks + reads) old mid) where
+    (free : IsUnhindered old.table need) (ready : Readies need (need.blocks + reads) old mid)
+    (still : mid.seen.faults ≡ old.seen.faults) where
   held_bits : (new : VolumeView) → new.committed ≡ mid.committed → (new.committed ≡ old.committed)
       ⊎ (LacksRoom need old × (new.committed ≡ used_places old.table))
   held_bits new same =
@@ -278,6 +299,7 @@ module _ (need : Need) (MayLead : VolumeTable → Type 0) (change : Files → Fi
         changed = inr (ap (λ (v : VolumeView). v.is_changed) is ∙ edits);
         held = held_bits new (ap (λ (v : VolumeView). v.committed) is);
         cause = λ was. tt;
+        needed = λ e. absurd cc;
         limit = λ was h met. absurd (let e = sym free ∙ met in cc);
         down = never_down {T = T} (Ok x) old new up;
         places = places;
@@ -290,6 +312,8 @@ module _ (need : Need) (MayLead : VolumeTable → Type 0) (change : Files → Fi
         goes = λ was. tt;
         elapses = subst (λ (s : Seen). Elapses old.seen s) (sym seen) ready.elapses;
         calls = subst (λ (s : Seen). s.calls ≤ old.seen.calls + (need.blocks + reads + room_calls need old)) (sym seen) ready.calls;
+        idle = λ none. seen ∙ ready.idle (omega (arith, none));
+        quiet = ap (λ (s : Seen). s.faults) seen ∙ still;
       }
 
   applied_short : (by : Hindrance) → new ≡ mid
@@ -301,10 +325,13 @@ module _ (need : Need) (MayLead : VolumeTable → Type 0) (change : Files → Fi
       at_mid : (by : Hindrance)
           → HindersApplying (length (spelling edited)) (table_cap mid.table.layout) by
           → GivesUp need MayLead (need.blocks + reads) old mid by
-      at_mid hindrance.Memory cause = memory_short need MayLead (need.blocks + reads) old mid ready
+      at_mid hindrance.Memory cause =
+          memory_short need MayLead (need.blocks + reads) old mid ready still
       at_mid (hindrance.TableFull needed cap) cause =
-          gave_up need MayLead (need.blocks + reads) old mid ready (hindrance.TableFull needed cap) (
+          gave_up need MayLead (need.blocks + reads) old mid ready (hindrance.TableFull needed cap)
+          (λ e. absurd cc) (
             free,
+            still,
             (
               edited,
               leads,

@@ -1,6 +1,7 @@
 -- Reading a file part by part.
 use Rattle.std.proofs.Common.{◌≡◌, inl, inr, ℕ, ◌+◌, ◌-◌, ◌*◌, ◌/◌, ◌%◌, ◌<◌, ◌≤◌, Bool, true, false, List, [], ◌++◌, length, take, drop, replicate, Option, None, Some, refl, sym, ap, ap₂, ◌∙◌, subst, arith, append_assoc, append-nil, length-append, length-drop}
-use Rattle.std.specs.Prelude.{IfErr, IfSome, Err, Result, ◌==◌, min, max, nat_lt, slice_range}
+use Rattle.std.specs.Prelude.{IfErr, IfSome, OnErr, OnOk, Ok, Err, Result, ◌==◌, min, max, nat_lt, slice_range}
+use Rattle.std.specs.Result.{IsErrAnd}
 use Rattle.std.proofs.Math.Seq.{take-append-add}
 use Rattle.std.proofs.lemmas.Bool.{cases_lt}
 use Rattle.std.proofs.lemmas.Bool.Decides.{nat_tests}
@@ -28,9 +29,9 @@ use Rattle.sis_copyclose.specs.Calls.{one_if, stands_before, stands_behind}
 use Rattle.sis_copyclose.specs.Inside.{AddsBytes, AddsOld, AddsPart, Works}
 use Rattle.sis_copyclose.specs.Reading.{Appends, HindersReading, OnlyLooks, reads_between, reads_in, read_end}
 use Rattle.sis_model.specs.declared.range.ByteRange.{ByteRange}
-use Rattle.sis_copyclose.proofs.Operations.{answered_down, never_down}
+use Rattle.sis_copyclose.proofs.Operations.{answered_down, given_up, never_down}
 use Rattle.sis_copyclose.proofs.FileBytes.{found_by, long, there_has, there_is, there_map}
-use Rattle.sis_copyclose.proofs.Works.{stops_then, works_reads}
+use Rattle.sis_copyclose.proofs.Works.{reading_wider, stops_then, works_reads}
 
 -- ---- stretches of bytes
 
@@ -149,6 +150,8 @@ pub record IsReading (v : VolumeTable) (n : Node) (at next end : ℕ) (live : Op
   pub few : next < end → used + at / 4096 ≤ next / 4096
   pub most : used + at / 4096 ≤ blocks_of next
   pub reads : OnlyReads used before after'
+  pub quiet : after'.faults ≡ before.faults
+  pub idle : end ≤ at → after' ≡ before
 
 pub reading_none : (v : VolumeTable) (n : Node) (at end : ℕ) (live : Option (List ℕ)) (out : List ℕ)
     (seen : Seen) → IsReading v n at at end live out out seen seen
@@ -161,15 +164,18 @@ reading_none v n at end live out seen = record {
   few = λ lt. omega arith;
   most = omega arith;
   reads = reads_none 0 seen;
+  quiet = refl;
+  idle = λ none. refl;
 }
 
 pub reading_more : (v : VolumeTable) (n : Node) (at next end count : ℕ) (live : Option (List ℕ))
     (out mid new : List ℕ) (before between after' : Seen) → next < end
     → IsReading v n at next end live out mid before between
     → AddsPart v n next (end - next) count (live_of between) mid new
-    → OnlyReads 1 between after' → live_of between ≡ live
+    → OnlyReads 1 between after' → after'.faults ≡ between.faults → live_of between ≡ live
     → IsReading v n at (next + count) end live out new before after'
-reading_more v n at next end count live out mid new before between after' lt so_far part reads same =
+reading_more v n at next end count live out mid new before between after' lt so_far part reads still
+    same =
     let low = so_far.low in
     let some = part.some in
     let less = part.few in
@@ -185,6 +191,8 @@ reading_more v n at next end count live out mid new before between after' lt so_
       few = λ more. (let whole = part.ends (omega arith) in omega arith);
       most = omega arith;
       reads = reads_then so_far.used 1 (so_far.used + 1) before between after' (omega arith) so_far.reads reads;
+      quiet = still ∙ so_far.quiet;
+      idle = λ none. absurd (omega (arith, low, lt, none));
     }
 
 pub reading_all : (v : VolumeTable) (n : Node) (at next end : ℕ) (live : Option (List ℕ))
@@ -268,14 +276,15 @@ pub pieces_more : (old now later : VolumeView) (file at next end count : ℕ) (o
     → ReadsOn old now file at next end out mid
     → IfThere (node_with now.table file) (λ n. AddsPart now.table n next (end - next) count
     (live_of now.seen) mid new)
-    → OnlyReads 1 now.seen later.seen → ReadsOn old later file at (next + count) end out new
-pieces_more old now later file at next end count out mid new lt same reading part reads =
+    → OnlyReads 1 now.seen later.seen → later.seen.faults ≡ now.seen.faults
+    → ReadsOn old later file at (next + count) end out new
+pieces_more old now later file at next end count out mid new lt same reading part reads still =
     let table : now.table ≡ old.table = ap (λ (v : VolumeView). v.table) same in
     let there = subst (λ (v : VolumeTable). IfThere (node_with v file) (λ n. AddsPart v n next (end - next) count (live_of now.seen) mid new)) table part in
     there_map (node_with old.table file) _ _ (λ n n_is r.
     reading_more old.table n at next end count (live_of old.seen) out mid new old.seen now.seen later.seen lt r
     (there_has (node_with old.table file) n (λ m. AddsPart old.table m next (end - next) count (live_of now.seen) mid new) n_is there)
-    reads r.reads.live) reading
+    reads still r.reads.live) reading
 
 -- the count of a part is above 0, and no greater than what is left
 pub part_count : (v : VolumeTable) (file next most count : ℕ) (live : Option (List ℕ))
@@ -285,11 +294,44 @@ part_count v file next most count live mid new part =
     let it = there_is (node_with v file) _ part in
     (it.2.some, it.2.few)
 
-pub pieces_faults : (old now : VolumeView) (file at next end : ℕ) (out mid : List ℕ)
-    → ReadsOn old now file at next end out mid → old.seen.faults ≤ now.seen.faults
-pieces_faults old now file at next end out mid reading =
-    let it = there_is (node_with old.table file) _ reading in
-    it.2.reads.elapses.faults
+pub pieces_quiet : (old now : VolumeView) (file at next end : ℕ) (out mid : List ℕ)
+    → ReadsOn old now file at next end out mid → now.seen.faults ≡ old.seen.faults
+pieces_quiet old now file at next end out mid reading =
+    (there_is (node_with old.table file) _ reading).2.quiet
+
+pub pieces_idle : (old now : VolumeView) (file at next end : ℕ) (out mid : List ℕ)
+    → ReadsOn old now file at next end out mid → end ≤ at → now.seen ≡ old.seen
+pieces_idle old now file at next end out mid reading none =
+    (there_is (node_with old.table file) _ reading).2.idle none
+
+-- where a piece is left there is something to read
+pub pieces_begun : (old now : VolumeView) (file at next end : ℕ) (out mid : List ℕ)
+    → ReadsOn old now file at next end out mid → next < end → at < end
+pieces_begun old now file at next end out mid reading lt =
+    let low = (there_is (node_with old.table file) _ reading).2.low in
+    omega (arith, low, lt)
+
+-- there is a block between two bytes, and none where they are in the other order
+pub some_between : (at end : ℕ) → at < end → 1 ≤ reads_between at end
+some_between at end lt =
+    let is : nat_lt at end ≡ true = grind (arith, nat_tests) in
+    rw is (omega (arith, lt))
+
+pub none_between : (at end : ℕ) → reads_between at end ≡ 0 → end ≤ at
+none_between at end none = elim (cases_lt at end) [
+  | inl lt ↦ absurd (omega (arith, none, some_between at end lt))
+  | inr le ↦ le
+]
+
+-- reading a piece failed
+pub pieces_failed : (old now later : VolumeView) (file at next end : ℕ) (out mid : List ℕ)
+    (by : Hindrance) → ReadsOn old now file at next end out mid → next < end
+    → HindersReading 1 now.seen later.seen by
+    → HindersReading (reads_between at end) old.seen later.seen by
+pieces_failed old now later file at next end out mid by reading lt cause =
+    reading_wider 1 (reads_between at end) old.seen now.seen later.seen by
+    (some_between at end (pieces_begun old now file at next end out mid reading lt))
+    (pieces_quiet old now file at next end out mid reading) cause
 
 -- what is left can be read
 pub pieces_there : (old now : VolumeView) (file next end : ℕ) → now ≡ record old { seen = now.seen }
@@ -390,13 +432,32 @@ appended_few v file range live out new adds =
 
 -- ---- what reading leaves
 
+-- a fault is one
+one_fault : (most : ℕ) (old new : Seen) (by : Hindrance) → HindersReading most old new by
+    → new.faults ≤ old.faults + 1
+one_fault most old new hindrance.Memory h = omega (arith, h)
+one_fault most old new hindrance.Disk h = h.2
+one_fault most old new (hindrance.Limit kind) h = absurd h
+one_fault most old new (hindrance.Full needed mapped total) h = absurd h
+one_fault most old new (hindrance.TableFull needed cap) h = absurd h
+one_fault most old new (hindrance.Down at) h = absurd h
+
+failed_once : {T : Type 0} (most : ℕ) (r : Result T Hindrance) (old new : Seen)
+    → IfErr r (HindersReading most old new) → OnErr r (new.faults ≤ old.faults + 1)
+failed_once most (Ok x) old new cause = tt
+failed_once most (Err by) old new cause = one_fault most old new by cause
+
 -- the volume is up, and only its disk was read
 pub only_looked : {T : Type 0} (most : ℕ) (r : Result T Hindrance) (old new : VolumeView)
     → old.down ≡ None → new ≡ record old { seen = new.seen } → OnlyReads most old.seen new.seen
-    → IfErr r (HindersReading old.seen new.seen) → OnlyLooks most r old new
-only_looked most r old new up same reads cause = record {
+    → (most ≡ 0 → new.seen ≡ old.seen) → OnOk r (new.seen.faults ≡ old.seen.faults)
+    → IfErr r (HindersReading most old.seen new.seen) → OnlyLooks most r old new
+only_looked most r old new up same reads idle quiet cause = record {
   same = same;
   reads = reads;
+  idle = idle;
+  quiet = quiet;
+  once = failed_once most r old.seen new.seen cause;
   cause = λ still. cause;
   down = never_down r old new up;
 }
@@ -406,21 +467,31 @@ pub read_looked : {T : Type 0} (r : Result T Hindrance) (old new : VolumeView) (
     (range : ByteRange) → old.down ≡ None → new ≡ record old { seen = new.seen }
     → IfThere (node_with old.table file) (λ n. end ≡ read_end n range)
     → OnlyReads (reads_between range.at end) old.seen new.seen
-    → IfErr r (HindersReading old.seen new.seen)
+    → (end ≤ range.at → new.seen ≡ old.seen) → OnOk r (new.seen.faults ≡ old.seen.faults)
+    → IfErr r (HindersReading (reads_between range.at end) old.seen new.seen)
     → IfThere (node_with old.table file) (λ n. OnlyLooks (reads_in range n) r old new)
-read_looked r old new file end range up same ends reads cause =
+read_looked r old new file end range up same ends reads idle quiet cause =
     there_map (node_with old.table file) _ _ (λ n is e.
-    only_looked (reads_in range n) r old new up same
-    (subst (λ (k : ℕ). OnlyReads (reads_between range.at k) old.seen new.seen) e reads) cause) ends
+    subst (λ (k : ℕ). OnlyLooks (reads_between range.at k) r old new) e
+    (only_looked (reads_between range.at end) r old new up same reads
+    (λ none. idle (none_between range.at end none)) quiet cause)) ends
+
+all_quiet : {T : Type 0} (r : Result T Hindrance) (v : VolumeView)
+    → OnOk r (v.seen.faults ≡ v.seen.faults)
+all_quiet (Ok x) v = refl
+all_quiet (Err by) v = tt
 
 -- there was no memory
 pub read_short : {T : Type 0} (r : Result T Hindrance) (v : VolumeView) (file : ℕ) (range : ByteRange)
     (P : Node → Type 0) → v.down ≡ None → IfThere (node_with v.table file) P
-    → IfErr r (HindersReading v.seen v.seen)
+    → IsErrAnd r (λ h. h ≡ hindrance.Memory)
     → IfThere (node_with v.table file) (λ n. OnlyLooks (reads_in range n) r v v)
-read_short r v file range P up there cause =
+read_short r v file range P up there short =
     there_map (node_with v.table file) P _ (λ n is here.
-    only_looked (reads_in range n) r v v up refl (reads_none (reads_in range n) v.seen) cause) there
+    only_looked (reads_in range n) r v v up refl (reads_none (reads_in range n) v.seen)
+    (λ none. refl) (all_quiet r v)
+    (given_up r hindrance.Memory (HindersReading (reads_in range n) v.seen v.seen) short refl))
+    there
 
 -- ---- within a block
 
@@ -451,6 +522,9 @@ pub looked_down : {T : Type 0} (most : ℕ) (v : VolumeView) (at : ℕ) → v.do
 looked_down {T = T} most v at is = record {
   same = refl;
   reads = reads_none most v.seen;
+  idle = λ none. refl;
+  quiet = tt;
+  once = omega arith;
   cause = λ up. absurd (let e = sym up ∙ is in cc);
   down = answered_down {T = T} (Err (hindrance.Down at)) v v at is refl refl;
 }
@@ -519,15 +593,36 @@ pub looked_works : {T : Type 0} (r : Result T Hindrance) (old new : VolumeView) 
     (range : ByteRange) → IfThere (node_with old.table file) (λ n. OnlyLooks (reads_in range n) r old new)
     → IfThere (node_with old.table file) (λ n. Works (reads_in range n) old new)
 looked_works r old new file range looks =
-    there_map (node_with old.table file) _ _ (λ n is h. works_reads (reads_in range n) old new h.same h.reads) looks
+    there_map (node_with old.table file) _ _
+    (λ n is h. works_reads (reads_in range n) old new h.same h.reads h.idle) looks
+
+pub looked_quiet : {T : Type 0} (r : Result T Hindrance) (old new : VolumeView) (file : ℕ)
+    (range : ByteRange) (x : T) → r ≡ Ok x
+    → IfThere (node_with old.table file) (λ n. OnlyLooks (reads_in range n) r old new)
+    → new.seen.faults ≡ old.seen.faults
+looked_quiet {T = T} r old new file range x is looks =
+    let it = there_is (node_with old.table file) _ looks in
+    subst (λ (q : Result T Hindrance). OnOk q (new.seen.faults ≡ old.seen.faults)) is it.2.quiet
+
+pub looked_memory : {T : Type 0} (r : Result T Hindrance) (old new : VolumeView) (file : ℕ)
+    (range : ByteRange) (x : T) → r ≡ Ok x
+    → IfThere (node_with old.table file) (λ n. OnlyLooks (reads_in range n) r old new)
+    → IfThere (node_with old.table file)
+    (λ n. HindersReading (reads_in range n) old.seen new.seen hindrance.Memory)
+looked_memory r old new file range x is looks =
+    there_map (node_with old.table file) _ _
+    (λ n n_is h. looked_quiet r old new file range x is looks) looks
 
 pub looked_cause : {T : Type 0} (r : Result T Hindrance) (old new : VolumeView) (file : ℕ)
-    (range : ByteRange) → old.down ≡ None
+    (range : ByteRange) (by : Hindrance) → r ≡ Err by → old.down ≡ None
     → IfThere (node_with old.table file) (λ n. OnlyLooks (reads_in range n) r old new)
-    → IfErr r (HindersReading old.seen new.seen)
-looked_cause r old new file range up looks =
-    let it = there_is (node_with old.table file) _ looks in
-    it.2.cause up
+    → IfThere (node_with old.table file)
+    (λ n. HindersReading (reads_in range n) old.seen new.seen by)
+looked_cause {T = T} r old new file range by is up looks =
+    there_map (node_with old.table file) _ _ (λ n n_is h.
+    subst
+    (λ (q : Result T Hindrance). IfErr q (HindersReading (reads_in range n) old.seen new.seen))
+    is (h.cause up)) looks
 
 -- the block at the old end, which is written or not
 pub end_reads : (n : Node) (range : ByteRange) (ends : ℕ) → range.at % 4096 ≡ 0 → ends ≤ 1

@@ -1,10 +1,11 @@
 -- Blocks that were staged for a change.
-use Rattle.std.proofs.Common.{◌≡◌, ℕ, ◌+◌, ◌*◌, ◌/◌, List, ◌++◌, length, map, flat_map, Option, None, Some, refl, sym, ap, ap₂, ◌∙◌, subst, arith, append_assoc}
+use Rattle.std.proofs.Common.{◌≡◌, ℕ, ◌+◌, ◌*◌, ◌/◌, List, [], ◌∷◌, ◌++◌, length, map, flat_map, Option, None, Some, refl, sym, ap, ap₂, ◌∙◌, subst, arith, append_assoc, append-nil}
 use Rattle.std.specs.Prelude.{IfSome}
 use Rattle.std.specs.List.{range_with_len}
 use Rattle.std.proofs.lemmas.List.{map-append}
 use Rattle.std.proofs.lemmas.List.Concat.{flat_map-append}
 use Rattle.sis_disk.specs.Record.{live_of}
+use Rattle.sis_disk.specs.declared.layout.Layout.{Layout}
 use Rattle.sis_journal.specs.Committing.{Both}
 use Rattle.sis_places.specs.Places.{PlacesView}
 use Rattle.sis_ranges.specs.Extents.{IsChain}
@@ -19,6 +20,23 @@ use Rattle.sis_volume.specs.View.{TxnView, VolumeView, held}
 use Rattle.sis_copyclose.specs.Inside.{StagesTexts}
 use Rattle.sis_copyclose.specs.declared.plan.Plan.{Plan}
 use Rattle.sis_copyclose.proofs.FreshRuns.{runs_apart, runs_free, runs_kept}
+
+-- no blocks
+pub stages_none : (l : Layout) (p : PlacesView) (txn : TxnView) (file first : ℕ) (bytes : List ℕ)
+    (live : Option (List ℕ)) → length bytes ≡ 0
+    → Stages l p txn txn file first (length bytes / 4096) bytes live []
+stages_none l p txn file first bytes live none = record {
+  edits = sym (append-nil txn.edits);
+  chain = omega (arith, none);
+  fresh = tt;
+  written = no_bytes live bytes none;
+}
+  where
+    no_bytes : (o : Option (List ℕ)) (bytes : List ℕ) → length bytes ≡ 0
+        → IfSome o (λ now. [] ≡ bytes)
+    no_bytes None bytes none = tt
+    no_bytes (Some m) [] none = refl
+    no_bytes (Some m) (b ∷ bytes) none = absurd (omega (arith, none))
 
 module _ (v : VolumeTable) (p : PlacesView) (file : ℕ) (table : IsTable v) (bits_are : p.current ≡ used_places v) where
   -- what was written first stays while the rest is written

@@ -239,6 +239,7 @@ module _ (old mid new : VolumeView) (n : Node) (size at : ℕ) (more : List ℕ)
   -- the bytes are turned so
   pub change_applied : {T : Type 0} (turn : List ℕ → List ℕ) (r : Result T Hindrance)
       → ((live : List ℕ) → length live ≡ n.size → changed_bytes size at more live ≡ turn live)
+      → mid.seen.faults ≡ old.seen.faults
       → OnOk r (new ≡ record mid {
         table = edited_by mid.table edits;
         is_changed = mid.is_changed || is_edit edits;
@@ -248,14 +249,14 @@ module _ (old mid new : VolumeView) (n : Node) (size at : ℕ) (more : List ℕ)
       → Operates (resize_need n (Some (resize_by n size at (length more))))
       (IsWithResize old.table n (Some (resize_by n size at (length more))))
       (with_bytes n.name turn) (change_reads n size at (length more)) r old new
-  change_applied turn r turns ok err cause =
+  change_applied turn r turns still ok err cause =
       let e : edited_by mid.table edits ≡ edited_by old.table edits =
       ap (λ (w : VolumeTable). edited_by w edits) ready.table in
       let made : edited_by mid.table edits ≡ with_resize n (Some its) (places_by staged.runs) old.table =
       e ∙ change_made old.table n size at more there change (live_of mid.seen) edits staged in
       applied (resize_need n (Some its)) (IsWithResize old.table n (Some its)) (with_bytes n.name turn)
       (change_reads n size at (length more)) old mid new (edited_by mid.table edits) up
-      staged.unhindered ready r (mid.is_changed || is_edit edits) ok err cause
+      staged.unhindered ready still r (mid.is_changed || is_edit edits) ok err cause
       (or_right mid.is_changed (is_edit edits) (ap is_edit staged.edits_are ∙ edits_there n its staged.runs))
       (subst (IsWithResize old.table n (Some its)) (sym e)
       (change_leads old.table n size at more there change (live_of mid.seen) edits staged))

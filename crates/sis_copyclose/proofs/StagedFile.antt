@@ -168,7 +168,7 @@ module _ (old mid new : VolumeView) (name bytes : List ℕ) (edits : List Edit) 
       subst (λ (v : VolumeTable). TakesFresh v edits) (sym ready.table)
       (file_fresh old.table name bytes (live_of mid.seen) edits short staged)
 
-  pub put_applied : {T : Type 0} (r : Result T Hindrance)
+  pub put_applied : {T : Type 0} (r : Result T Hindrance) → mid.seen.faults ≡ old.seen.faults
       → OnOk r (new ≡ record mid {
         table = edited_by mid.table edits;
         is_changed = mid.is_changed || is_edit edits;
@@ -177,14 +177,14 @@ module _ (old mid new : VolumeView) (name bytes : List ℕ) (edits : List Edit) 
       → IfErr r (HindersApplying (length (spelling (edited_by mid.table edits))) (table_cap mid.table.layout))
       → Operates (put_need (length bytes)) (IsWithFile old.table name (length bytes))
       (λ files. insert files name bytes) 0 r old new
-  put_applied r ok err cause =
+  put_applied r still ok err cause =
       let e : edited_by mid.table edits ≡ edited_by old.table edits =
       ap (λ (v : VolumeTable). edited_by v edits) ready.table in
       applied (put_need (length bytes)) (IsWithFile old.table name (length bytes))
       (λ files. insert files name bytes) 0 old mid new (edited_by mid.table edits) up
       staged.unhindered
       (readied_wider (put_need (length bytes)) (blocks_of (length bytes)) (blocks_of (length bytes) + 0) old mid (omega arith) ready)
-      r (mid.is_changed || is_edit edits) ok err cause
+      still r (mid.is_changed || is_edit edits) ok err cause
       (or_right mid.is_changed (is_edit edits) (file_edited old.table name bytes (live_of mid.seen) edits short staged))
       (subst (IsWithFile old.table name (length bytes)) (sym e)
       (file_leads old.table name bytes (live_of mid.seen) edits short staged))

@@ -89,7 +89,8 @@ module _ (old mid : VolumeView) (file size at : ℕ) (more : List ℕ) (up : old
         let it = there_is (node_with old.table file) _ change in
         mid_fresh old mid mid it.0 size at more (found_by old.table file it.0 it.1) it.2 edits up (ready_of it.0 it.1) (staged_of it.0 it.1)
 
-    module _ (new : VolumeView) {T : Type 0} (r : Result T Hindrance)
+    module _ (still : mid.seen.faults ≡ old.seen.faults) (new : VolumeView) {T : Type 0}
+        (r : Result T Hindrance)
         (ok : OnOk r (new ≡ record mid {
           table = edited_by mid.table edits;
           is_changed = mid.is_changed || is_edit edits;
@@ -103,7 +104,8 @@ module _ (old mid : VolumeView) (file size at : ℕ) (more : List ℕ) (up : old
           let same = way_written n size at (length more) some h in
           as_write n size at more r old new some same
           (change_applied old mid new n size at more (found_by old.table file n is) h edits up (ready_of n is) (staged_of n is) (written at more) r
-          (λ live whole. turns_write n size at more live some same whole) ok err cause)) change
+          (λ live whole. turns_write n size at more live some same whole) still ok err
+          cause)) change
 
   -- it gave up
   pub write_short : {T : Type 0} (r : Result T Hindrance) (by : Hindrance) → 1 ≤ length more
@@ -123,7 +125,8 @@ module _ (old mid : VolumeView) (file size : ℕ) (up : old.down ≡ None)
   pub size_done : (edits : List Edit)
       → IfThere (node_with old.table file) (λ n. StagesChange old.table n size 0 [] (live_of mid.seen) edits)
       → IfThere (node_with old.table file) (λ n. Readies (need_of n size 0 0) (most_of n size 0 0) old mid)
-      → (new : VolumeView) → {T : Type 0} → (r : Result T Hindrance)
+      → mid.seen.faults ≡ old.seen.faults → (new : VolumeView) → {T : Type 0}
+      → (r : Result T Hindrance)
       → OnOk r (new ≡ record mid {
         table = edited_by mid.table edits;
         is_changed = mid.is_changed || is_edit edits;
@@ -131,13 +134,13 @@ module _ (old mid : VolumeView) (file size : ℕ) (up : old.down ≡ None)
       → OnErr r (new ≡ mid)
       → IfErr r (HindersApplying (length (spelling (edited_by mid.table edits))) (table_cap mid.table.layout))
       → IfThere (node_with old.table file) (λ n. Changes n (resized size) (size_of n size) (size_reads n size) r old new)
-  size_done edits staged ready new r ok err cause =
+  size_done edits staged ready still new r ok err cause =
       there_map (node_with old.table file) _ _ (λ n is h.
       as_size n size r old new (way_sized n size 0 h)
       (change_applied old mid new n size 0 [] (found_by old.table file n is) h edits up
       (there_has (node_with old.table file) n (λ m. Readies (need_of m size 0 0) (most_of m size 0 0) old mid) is ready)
       (there_has (node_with old.table file) n (λ m. StagesChange old.table m size 0 [] (live_of mid.seen) edits) is staged)
-      (resized size) r (λ live whole. turns_size size live) ok err cause)) change
+      (resized size) r (λ live whole. turns_size size live) still ok err cause)) change
 
   pub size_short : {T : Type 0} (r : Result T Hindrance) (by : Hindrance) → IsErrAnd r (λ h. h ≡ by)
       → IfThere (node_with old.table file) (λ n. GivesUp (need_of n size 0 0)

@@ -1,11 +1,12 @@
 -- Calls that go by until a table is changed.
 use Rattle.std.proofs.Common.{◌≡◌, ◌⊎◌, ⊎_elim, inl, inr, ℕ, ◌+◌, ◌-◌, ◌*◌, ◌≤◌, true, List, [], ◌∷◌, ◌++◌, length, take, drop, Option, Some, None, refl, sym, ap, ◌∙◌, subst, arith, length-drop}
-use Rattle.std.specs.Prelude.{IfErr, IfSome, Ok, Err, Result, is_some, slice_range}
+use Rattle.std.specs.Prelude.{IfErr, IfSome, OnErr, Ok, Err, Result, is_some, slice_range}
 use Rattle.std.specs.Option.{option_map}
 use Rattle.std.proofs.lemmas.List.{drop-drop}
 use Rattle.sis_disk.specs.Causes.{StaysUp}
 use Rattle.sis_disk.specs.Layout.{first_byte}
-use Rattle.sis_disk.specs.Record.{Call, DiskRecord, Seen, State, after, after_all, live_of, state_of}
+use Rattle.sis_disk.specs.declared.layout.Layout.{Layout}
+use Rattle.sis_disk.specs.Record.{Call, DiskRecord, Rose, Seen, State, after, after_all, live_of, state_of}
 use Rattle.sis_disk.specs.Stops.{Elapses, GoesOn, Leaves, Now, Shows, ShowsAlong}
 use Rattle.sis_disk.proofs.GoesOn.{up_refl, up_trans}
 use Rattle.sis_disk.proofs.Images.{after_all_append, leaves_none, leaves_trans, leaves_weaker}
@@ -110,6 +111,12 @@ places_staged v p edits old new table bits keeps =
           (fresh-avoids_current v.layout p edits v refl table bits place is);
     }) old new keeps
 
+pub others_refl : (l : Layout) (p : PlacesView) (edits : List Edit) (live : Option (List ℕ))
+    → Both (KeepsOthers l p edits) live live
+others_refl l p edits live =
+    both_refl (KeepsOthers l p edits)
+    (λ m. record { size = refl; areas = refl; blocks = λ place is. refl }) live
+
 -- a block behind some bytes is one of those behind them
 block_behind : (m : List ℕ) (k place : ℕ) → k ≤ 4096 * place
     → block_at m place ≡ slice_range (drop k m) (4096 * place - k) (4096 * place + 4096 - k)
@@ -160,11 +167,12 @@ works_none v = record {
   places = places_refl v.table (live_of v.seen);
   elapses = record { size = refl; calls = omega arith; faults = omega arith };
   calls = omega arith;
+  idle = λ none. refl;
 }
 
 pub works_reads : (most : ℕ) (old new : VolumeView) → new ≡ record old { seen = new.seen }
-    → OnlyReads most old.seen new.seen → Works most old new
-works_reads most old new same reads = record {
+    → OnlyReads most old.seen new.seen → (most ≡ 0 → new.seen ≡ old.seen) → Works most old new
+works_reads most old new same reads idle = record {
   same = same;
   up = up_reading (first_byte old.table.layout) most old.seen new.seen reads;
   images = λ files opens. leaves_reading (OpensAs files) most old.seen new.seen reads opens;
@@ -176,6 +184,7 @@ works_reads most old new same reads = record {
       (sym reads.live) (places_refl old.table (live_of old.seen));
   elapses = reads.elapses;
   calls = reads.calls;
+  idle = idle;
 }
 
 pub works_then : (m n most : ℕ) (a b c : VolumeView) → m + n ≤ most → Works m a b → Works n b c
@@ -199,6 +208,7 @@ works_then m n most a b c few one two =
         faults = omega (arith, one.elapses.faults, two.elapses.faults);
       };
       calls = omega (arith, one.calls, two.calls, few);
+      idle = λ none. two.idle (omega (arith, few, none)) ∙ one.idle (omega (arith, few, none));
     }
 
 pub works_staged : (most : ℕ) (edits : List Edit) (old new : VolumeView) → IsTable old.table
@@ -206,8 +216,8 @@ pub works_staged : (most : ℕ) (edits : List Edit) (old new : VolumeView) → I
     → Both (KeepsOthers old.table.layout (held old) edits) (live_of old.seen) (live_of new.seen)
     → StaysUp (first_byte old.table.layout) old.seen new.seen → OnlyOpens old.seen new.seen
     → files_in new.table new.seen ≡ files_in old.table old.seen → Elapses old.seen new.seen
-    → new.seen.calls ≤ old.seen.calls + most → Works most old new
-works_staged most edits old new table same others up images files elapses calls = record {
+    → new.seen.calls ≤ old.seen.calls + most → 1 ≤ most → Works most old new
+works_staged most edits old new table same others up images files elapses calls some = record {
   same = same;
   up = up;
   images = images;
@@ -216,20 +226,8 @@ works_staged most edits old new table same others up images files elapses calls 
       places_staged old.table (held old) edits (live_of old.seen) (live_of new.seen) table refl others;
   elapses = elapses;
   calls = calls;
+  idle = λ none. absurd (omega (arith, some, none));
 }
-
--- blocks were staged behind others
-pub works_more : (m n most : ℕ) (more : List Edit) (a b c : VolumeView) → m + n ≤ most
-    → IsTable a.table → b ≡ record a { seen = b.seen } → Works m a b
-    → c ≡ record b { seen = c.seen }
-    → Both (KeepsOthers b.table.layout (held b) more) (live_of b.seen) (live_of c.seen)
-    → StaysUp (first_byte b.table.layout) b.seen c.seen → OnlyOpens b.seen c.seen
-    → files_in c.table c.seen ≡ files_in b.table b.seen → Elapses b.seen c.seen
-    → c.seen.calls ≤ b.seen.calls + n → Works most a c
-works_more m n most more a b c few table same first later others up images files elapses calls =
-    works_then m n most a b c few first
-    (works_staged n more b c (subst IsTable (sym (ap (λ (v : VolumeView). v.table) same)) table)
-    later others up images files elapses calls)
 
 pub works_wider : (m most : ℕ) (a b : VolumeView) → m ≤ most → Works m a b → Works most a b
 works_wider m most a b few one = record {
@@ -240,6 +238,7 @@ works_wider m most a b few one = record {
   places = one.places;
   elapses = one.elapses;
   calls = omega (arith, one.calls, few);
+  idle = λ none. one.idle (omega (arith, few, none));
 }
 
 -- ---- readied
@@ -258,6 +257,7 @@ readied_none need v up = record {
   places = places_refl v.table (live_of v.seen);
   elapses = record { size = refl; calls = omega arith; faults = omega arith };
   calls = omega arith;
+  idle = λ none. refl;
 }
 
 -- a stop during calls that leave what was there finds the files that the calls before left
@@ -329,6 +329,7 @@ readied_then need m n most a b c few up one two =
         faults = omega (arith, one.elapses.faults, two.elapses.faults);
       };
       calls = omega (arith, one.calls, two.calls, few);
+      idle = λ none. two.idle (omega (arith, few, none)) ∙ one.idle (omega (arith, few, none));
     }
 
 pub readied_wider : (need : Need) (m most : ℕ) (a b : VolumeView) → m ≤ most
@@ -343,19 +344,8 @@ readied_wider need m most a b few one = record {
   places = one.places;
   elapses = one.elapses;
   calls = omega (arith, one.calls, few);
+  idle = λ none. one.idle (omega (arith, few, none));
 }
-
--- blocks were staged in the room that was made
-pub readied_staged : (need : Need) (n most : ℕ) (edits : List Edit) (old mid new : VolumeView)
-    → n ≤ most → old.down ≡ None → IsTable old.table → Readies need 0 old mid
-    → new ≡ record mid { seen = new.seen }
-    → Both (KeepsOthers mid.table.layout (held mid) edits) (live_of mid.seen) (live_of new.seen)
-    → StaysUp (first_byte mid.table.layout) mid.seen new.seen → OnlyOpens mid.seen new.seen
-    → files_in new.table new.seen ≡ files_in mid.table mid.seen → Elapses mid.seen new.seen
-    → new.seen.calls ≤ mid.seen.calls + n → Readies need most old new
-readied_staged need n most edits old mid new few up table ready same others stays images files elapses calls =
-    readied_then need 0 n most old mid new (omega (arith, few)) up ready
-    (works_staged n edits mid new (subst IsTable (sym ready.table) table) same others stays images files elapses calls)
 
 pub sized_kept : (v : VolumeTable) (a b : Option (List ℕ)) → Both (KeepsPlaces v) a b
     → IfSome a (λ m. length m ≡ 4096 * v.layout.total)
@@ -372,20 +362,31 @@ pub if_err_map : {T : Type 0} (r : Result T Hindrance) (P Q : Hindrance → Type
 if_err_map (Ok x) P Q f h = tt
 if_err_map (Err by) P Q f h = f by h
 
--- the same over more calls
-pub reading_wider : (a b c d : Seen) (by : Hindrance) → a.faults ≤ b.faults → c.faults ≤ d.faults
-    → HindersReading b c by → HindersReading a d by
-reading_wider a b c d hindrance.Memory less more h = tt
-reading_wider a b c d hindrance.Disk less more h = omega arith
-reading_wider a b c d (hindrance.Limit kind) less more h = absurd h
-reading_wider a b c d (hindrance.Full needed mapped total) less more h = absurd h
-reading_wider a b c d (hindrance.TableFull needed cap) less more h = absurd h
-reading_wider a b c d (hindrance.Down at) less more h = absurd h
+-- the same after calls that didn't fail, and over more of them
+pub reading_wider : (m most : ℕ) (a b c : Seen) (by : Hindrance) → m ≤ most → b.faults ≡ a.faults
+    → HindersReading m b c by → HindersReading most a c by
+reading_wider m most a b c hindrance.Memory few quiet h = h ∙ quiet
+reading_wider m most a b c hindrance.Disk few quiet h = (
+  omega (arith, few, h.0),
+  subst (λ (k : ℕ). Rose k c.faults) quiet h.1,
+  omega (arith, quiet, h.2),
+)
+reading_wider m most a b c (hindrance.Limit kind) few quiet h = absurd h
+reading_wider m most a b c (hindrance.Full needed mapped total) few quiet h = absurd h
+reading_wider m most a b c (hindrance.TableFull needed cap) few quiet h = absurd h
+reading_wider m most a b c (hindrance.Down at) few quiet h = absurd h
 
-pub staging_reads : (a b : Seen) (by : Hindrance) → HindersStaging a b by → HindersReading a b by
-staging_reads a b hindrance.Memory h = tt
-staging_reads a b hindrance.Disk h = h
-staging_reads a b (hindrance.Limit kind) h = absurd h
-staging_reads a b (hindrance.Full needed mapped total) h = absurd h
-staging_reads a b (hindrance.TableFull needed cap) h = absurd h
-staging_reads a b (hindrance.Down at) h = absurd h
+staging_reads : (most : ℕ) (a b : Seen) (by : Hindrance) → 1 ≤ most → b.faults ≤ a.faults + 1
+    → HindersStaging a b by → HindersReading most a b by
+staging_reads most a b hindrance.Memory some once h = h
+staging_reads most a b hindrance.Disk some once h = (some, h, once)
+staging_reads most a b (hindrance.Limit kind) some once h = absurd h
+staging_reads most a b (hindrance.Full needed mapped total) some once h = absurd h
+staging_reads most a b (hindrance.TableFull needed cap) some once h = absurd h
+staging_reads most a b (hindrance.Down at) some once h = absurd h
+
+pub staged_cause : {T : Type 0} (r : Result T Hindrance) (most : ℕ) (a b : Seen) → 1 ≤ most
+    → OnErr r (b.faults ≤ a.faults + 1) → IfErr r (HindersStaging a b)
+    → IfErr r (HindersReading most a b)
+staged_cause (Ok x) most a b some once h = tt
+staged_cause (Err by) most a b some once h = staging_reads most a b by some once h

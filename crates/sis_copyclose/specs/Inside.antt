@@ -9,6 +9,7 @@ use Rattle.sis_history.specs.Needs.{Need, hindrance_of, no_need, put_need, resiz
 use Rattle.sis_journal.specs.Committing.{Both}
 use Rattle.sis_model.specs.World.{overwritten, resized}
 use Rattle.sis_model.specs.declared.reply.Hindrance.{Hindrance}
+use Rattle.sis_model.specs.declared.reply.Hindrance.TheVariants as hindrance
 use Rattle.sis_ranges.specs.declared.run.Run.{Run}
 use Rattle.sis_table.specs.Changes.{AreFreeRuns, AreWritten, Resize, make_edits, places_by, resize_edits, resize_to, rewrites_end, touched_blocks}
 use Rattle.sis_table.specs.Content.{content_of, files_in, run_bytes}
@@ -48,7 +49,7 @@ pub record AddsPart (v : VolumeTable) (n : Node) (at most count : ℕ) (live : O
 -- ---- what goes by until the table is changed
 
 -- At most so many calls of the disk went by. They changed no byte that the table knows of, and no
--- stop leaves anything else.
+-- stop leaves anything else. Where the number is 0, none was refused either.
 pub record Works (most : ℕ) (old new : VolumeView) : Type 0 where
   pub same : new ≡ record old { seen = new.seen }
   pub up : StaysUp (first_byte old.table.layout) old.seen new.seen
@@ -57,6 +58,7 @@ pub record Works (most : ℕ) (old new : VolumeView) : Type 0 where
   pub places : Both (KeepsPlaces old.table) (live_of old.seen) (live_of new.seen)
   pub elapses : Elapses old.seen new.seen
   pub calls : new.seen.calls ≤ old.seen.calls + most
+  pub idle : most ≡ 0 → new.seen ≡ old.seen
 
 -- The same, but the table may have been committed before, since room was lacking.
 pub record Readies (need : Need) (most : ℕ) (old new : VolumeView) : Type 0 where
@@ -69,6 +71,7 @@ pub record Readies (need : Need) (most : ℕ) (old new : VolumeView) : Type 0 wh
   pub places : Both (KeepsPlaces old.table) (live_of old.seen) (live_of new.seen)
   pub elapses : Elapses old.seen new.seen
   pub calls : new.seen.calls ≤ old.seen.calls + (most + room_calls need old)
+  pub idle : need.blocks + most ≡ 0 → new.seen ≡ old.seen
 
 -- An operation that needs this, and leads to one of these tables, gave up so, after at most so many
 -- calls beside those of a commit.
@@ -79,11 +82,13 @@ pub record GivesUp (need : Need) (MayLead : VolumeTable → Type 0) (most : ℕ)
   pub files : files_in new.table new.seen ≡ files_in old.table old.seen
   pub places : Both (KeepsPlaces old.table) (live_of old.seen) (live_of new.seen)
   pub cause : Hinders need MayLead old new by
+  pub needed : by ≡ hindrance.Disk → 1 ≤ need.blocks + most
   pub stops : StopsWell old new
   pub still : need.blocks ≤ spare old → OnlyOpens old.seen new.seen
   pub goes : EndsBy old new by
   pub elapses : Elapses old.seen new.seen
   pub calls : new.seen.calls ≤ old.seen.calls + (most + room_calls need old)
+  pub idle : need.blocks + most ≡ 0 → new.seen ≡ old.seen
 
 -- blocks alone, and whether no limit comes before want of them
 abbrev pub blocks_alone : ℕ → Need

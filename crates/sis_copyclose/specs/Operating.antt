@@ -78,6 +78,7 @@ pub record Operates {T : Type 0} (need : Need) (MayLead : VolumeTable → Type 0
       ⊎ (LacksRoom need old × (new.committed ≡ used_places old.table)))
   -- why it fails
   pub cause : old.down ≡ None → IfErr result (Hinders need MayLead old new)
+  pub needed : result ≡ Err hindrance.Disk → 1 ≤ need.blocks + reads
   pub limit : old.down ≡ None → (by : Hindrance) → hindrance_of old.table need ≡ Some by
       → (result ≡ Err by) ⊎ (result ≡ Err hindrance.Memory)
   pub down : IfSome old.down (λ at. (result ≡ Err (hindrance.Down at)) × (new ≡ old))
@@ -89,3 +90,6 @@ pub record Operates {T : Type 0} (need : Need) (MayLead : VolumeTable → Type 0
   pub goes : old.down ≡ None → IfErr result (EndsBy old new)
   pub elapses : Elapses old.seen new.seen
   pub calls : new.seen.calls ≤ old.seen.calls + most_calls need reads old
+  -- where it may make none, none was refused either; behind Ok none failed
+  pub idle : need.blocks + reads ≡ 0 → new.seen ≡ old.seen
+  pub quiet : OnOk result (new.seen.faults ≡ old.seen.faults)

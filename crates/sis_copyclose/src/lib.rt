@@ -10,6 +10,7 @@ mod removing;
 mod renaming;
 mod resizing;
 mod rooms;
+mod staging;
 mod stale;
 mod texts;
 mod zeros;

@@ -15,6 +15,7 @@ ghost use Rattle.sis_copyclose.specs.Inside.{GivesUp, Readies, StagesFile};
 ghost use Rattle.sis_copyclose.specs.Operating.{Operates};
 
 use crate::rooms::make_room;
+use crate::staging::stage_blocks;
 use sis_disk::{BLOCK_LEN, Disk};
 use sis_model::{Hindrance, LimitKind};
 use sis_name::Name;
@@ -91,6 +92,7 @@ fn stage_file<D: Disk>(
     requires free { list_any (has_name name.now) volume.old.table.nodes ≡ false }
     ensures staged { IfOk result (λ txn. StagesFile volume.old.table name.now bytes.now
         (live_of volume.new.seen) txn.edits) }
+    ensures quiet { OnOk result (volume.new.seen.faults ≡ volume.old.seen.faults) }
     ensures ready { OnOk result (Readies (put_need (length bytes.now))
         (blocks_of (length bytes.now)) volume.old volume.new) }
     ensures fails { IfErr result (GivesUp (put_need (length bytes.now))
@@ -104,7 +106,7 @@ fn stage_file<D: Disk>(
     make_room(volume, (bytes.len() as u64).div_ceil(BLOCK_LEN))?;
     let mut txn = new_file(alloc, id, name, bytes.len() as u64)?;
     let blocks = whole_blocks(alloc, bytes)?;
-    volume.stage(&mut txn, id, 0, &blocks)?;
+    stage_blocks(volume, &mut txn, id, 0, &blocks)?;
     Ok(txn)
 }
 

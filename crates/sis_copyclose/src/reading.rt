@@ -31,9 +31,10 @@ fn add_piece<D: Disk>(
         (λ n. AddsPart volume.old.table n at most count (live_of volume.old.seen)
         out.old.items out.new.items)) }
     ensures err { OnErr result (out.new.items ≡ out.old.items) }
-    ensures cause { IfErr result (HindersReading volume.old.seen volume.new.seen) }
+    ensures cause { IfErr result (HindersReading 1 volume.old.seen volume.new.seen) }
     ensures same { volume.new ≡ record volume.old { seen = volume.new.seen } }
     ensures reads { OnlyReads 1 volume.old.seen volume.new.seen }
+    ensures quiet { OnOk result (volume.new.seen.faults ≡ volume.old.seen.faults) }
 {
     match volume.piece(file, at) {
         Ok(Piece::Bytes(bytes)) => {
@@ -65,9 +66,12 @@ fn add_pieces<D: Disk>(
         (λ n. AddsBytes volume.old.table n at end (live_of volume.old.seen)
         out.old.items out.new.items)) }
     ensures front { take (length out.old.items) out.new.items ≡ out.old.items }
-    ensures cause { IfErr result (HindersReading volume.old.seen volume.new.seen) }
+    ensures cause { IfErr result
+        (HindersReading (reads_between at end) volume.old.seen volume.new.seen) }
     ensures same { volume.new ≡ record volume.old { seen = volume.new.seen } }
     ensures reads { OnlyReads (reads_between at end) volume.old.seen volume.new.seen }
+    ensures quiet { OnOk result (volume.new.seen.faults ≡ volume.old.seen.faults) }
+    ensures idle { end ≤ at → volume.new.seen ≡ volume.old.seen }
 {
     let mut next = at;
     while next < end {

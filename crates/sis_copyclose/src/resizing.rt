@@ -17,6 +17,7 @@ ghost use Rattle.sis_copyclose.specs.Reading.{HindersReading};
 
 use crate::plan::{Plan, plan_in};
 use crate::rooms::make_room;
+use crate::staging::stage_blocks;
 use crate::texts::{Texts, texts_of};
 use sis_disk::{BLOCK_LEN, Disk};
 use sis_model::{Hindrance, LimitKind};
@@ -88,11 +89,13 @@ fn stage_texts<D: Disk>(
     ensures staged { OnOk result (StagesTexts volume.old.table file plan.now
         texts.now.end.items texts.now.touched.items (live_of volume.new.seen)
         txn.old.edits txn.new.edits) }
-    ensures cause { IfErr result (HindersReading volume.old.seen volume.new.seen) }
+    ensures cause { IfErr result (HindersReading (plan.now.ends + plan.now.count)
+        volume.old.seen volume.new.seen) }
+    ensures quiet { OnOk result (volume.new.seen.faults ≡ volume.old.seen.faults) }
     ensures works { Works (plan.now.ends + plan.now.count) volume.old volume.new }
 {
-    volume.stage(txn, file, plan.old_size / BLOCK_LEN, &texts.end)?;
-    volume.stage(txn, file, plan.first, &texts.touched)
+    stage_blocks(volume, txn, file, plan.old_size / BLOCK_LEN, &texts.end)?;
+    stage_blocks(volume, txn, file, plan.first, &texts.touched)
 }
 
 // Writes the blocks of a change to new places, and gives the edits that make it. Where there are too
@@ -111,6 +114,7 @@ fn stage_change<D: Disk>(
     ensures staged { IfOk result (λ txn. IfThere (node_with volume.old.table file)
         (λ n. StagesChange volume.old.table n size at bytes.now (live_of volume.new.seen)
         txn.edits)) }
+    ensures quiet { OnOk result (volume.new.seen.faults ≡ volume.old.seen.faults) }
     ensures ready { OnOk result (IfThere (node_with volume.old.table file)
         (λ n. Readies (resize_need n (Some (resize_by n size at (length bytes.now))))
         (length (resize_by n size at (length bytes.now)).blocks

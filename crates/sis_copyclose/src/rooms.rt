@@ -19,6 +19,7 @@ pub(crate) fn make_room<D: Disk>(volume: &mut Volume<D>, blocks: u64) -> Result<
         (λ live. length live ≡ 4096 * volume.old.table.layout.total) }
     ensures spare { OnOk result (blocks ≤ spare volume.new) }
     ensures fits { OnOk result (IsUnhindered volume.old.table (blocks_alone blocks)) }
+    ensures quiet { OnOk result (volume.new.seen.faults ≡ volume.old.seen.faults) }
     ensures ready { OnOk result ((need : Need) → need.blocks ≡ blocks
         → Readies need 0 volume.old volume.new) }
     ensures fails { IfErr result (λ by. (need : Need) → need.blocks ≡ blocks

@@ -40,7 +40,9 @@ fn add_old<D: Disk>(
     ensures ok { OnOk result (IfThere (node_with volume.old.table file)
         (λ n. AddsOld volume.old.table n range (live_of volume.old.seen)
         out.old.items out.new.items)) }
-    ensures cause { IfErr result (HindersReading volume.old.seen volume.new.seen) }
+    ensures cause { IfErr result (λ by. IfThere (node_with volume.old.table file)
+        (λ n. HindersReading (reads_in range n) volume.old.seen volume.new.seen by)) }
+    ensures quiet { OnOk result (volume.new.seen.faults ≡ volume.old.seen.faults) }
     ensures works { IfThere (node_with volume.old.table file)
         (λ n. Works (reads_in range n) volume.old volume.new) }
 {
@@ -66,7 +68,9 @@ fn end_text<D: Disk>(
         (λ live. IfThere (node_with volume.old.table file) (λ n. text.items
         ≡ resized (4096 * plan.now.ends) (drop (4096 * (plan.now.old_size / 4096))
         (content_of volume.old.table live n))))) }
-    ensures cause { IfErr result (HindersReading volume.old.seen volume.new.seen) }
+    ensures cause { IfErr result
+        (HindersReading plan.now.ends volume.old.seen volume.new.seen) }
+    ensures quiet { OnOk result (volume.new.seen.faults ≡ volume.old.seen.faults) }
     ensures works { Works plan.now.ends volume.old volume.new }
 {
     let mut text = Vec::new(alloc);
@@ -95,7 +99,10 @@ fn touched_text<D: Disk>(
         (λ live. IfThere (node_with volume.old.table file) (λ n. text.items
         ≡ before_text at (content_of volume.old.table live n) ++ bytes.now
         ++ behind_text (at + length bytes.now) (content_of volume.old.table live n)))) }
-    ensures cause { IfErr result (HindersReading volume.old.seen volume.new.seen) }
+    ensures cause { IfErr result (λ by. IfThere (node_with volume.old.table file)
+        (λ n. HindersReading (reads_around n at (length bytes.now))
+        volume.old.seen volume.new.seen by)) }
+    ensures quiet { OnOk result (volume.new.seen.faults ≡ volume.old.seen.faults) }
     ensures works { IfThere (node_with volume.old.table file)
         (λ n. Works (reads_around n at (length bytes.now)) volume.old volume.new) }
 {
@@ -134,7 +141,10 @@ pub(crate) fn texts_of<D: Disk>(
     ensures texts { IfOk result (λ texts. IfThere (node_with volume.old.table file)
         (λ n. AreTexts volume.old.table n plan.now at bytes.now (live_of volume.old.seen)
         texts.end.items texts.touched.items)) }
-    ensures cause { IfErr result (HindersReading volume.old.seen volume.new.seen) }
+    ensures cause { IfErr result (λ by. IfThere (node_with volume.old.table file)
+        (λ n. HindersReading (plan.now.ends + reads_around n at (length bytes.now))
+        volume.old.seen volume.new.seen by)) }
+    ensures quiet { OnOk result (volume.new.seen.faults ≡ volume.old.seen.faults) }
     ensures works { IfThere (node_with volume.old.table file)
         (λ n. Works (plan.now.ends + reads_around n at (length bytes.now))
         volume.old volume.new) }

@@ -16,7 +16,8 @@ pub returns : goal.returns
 returns g c =
     put_applied c.args.volume.now c.stage_file.new.volume c.apply.new.self c.args.name.now c.args.bytes.now
     c.in_ok-txn.txn.edits c.requires.short (sym c.down.ensures ∙ c.in_default.is) c.in_ok-txn.ensures.ready c.in_ok-txn.ensures.staged
-    c.apply.result c.apply.ensures.ok c.apply.ensures.err c.apply.ensures.cause
+    c.apply.result c.in_ok-txn.ensures.quiet c.apply.ensures.ok c.apply.ensures.err
+    c.apply.ensures.cause
 
 pub returns-in_err-txn : goal.returns-in_err-txn
 returns-in_err-txn g c =

@@ -1,8 +1,7 @@
 use Rattle.std.proofs.Common.{◌∙◌, List, length, take, refl, ap, arith}
 use Rattle.sis_volume.specs.View.{VolumeView}
 use Rattle.sis_copyclose.proofs.Operations.{given_up}
-use Rattle.sis_copyclose.proofs.ReadParts.{part_count, pieces_all, pieces_faults, pieces_front, pieces_last, pieces_more, pieces_none, pieces_reads, pieces_there}
-use Rattle.sis_copyclose.proofs.Works.{reading_wider}
+use Rattle.sis_copyclose.proofs.ReadParts.{part_count, pieces_all, pieces_begun, pieces_failed, pieces_front, pieces_idle, pieces_last, pieces_more, pieces_none, pieces_quiet, pieces_reads, pieces_there}
 use Rattle.sis_copyclose.proofs.reading.add_pieces.Goals as goal
 
 pub loop-next-init : goal.loop-next-init
@@ -38,7 +37,8 @@ loop-next-preserved g c = record {
   reading =
       pieces_more c.args.volume.now c.loop-next.volume c.add_piece.new.volume c.args.file c.args.at c.loop-next.next c.args.end _
       c.args.out.now.items c.loop-next.out.items c.add_piece.new.out.items c.loop-next-test.true c.loop-next.invariant.same
-      c.loop-next.invariant.reading c.in_ok-next.ensures.added c.add_piece.ensures.reads;
+      c.loop-next.invariant.reading c.in_ok-next.ensures.added c.add_piece.ensures.reads
+      c.in_ok-next.ensures.quiet;
 }
 
 pub returns-in_err-next-clause-front : goal.returns-in_err-next-clause-front
@@ -51,9 +51,20 @@ pub returns-in_err-next-clause-cause : goal.returns-in_err-next-clause-cause
 returns-in_err-next-clause-cause g c =
     let by = c.in_err-next.field-0.0 in
     given_up c.from_residual.result by _ c.from_residual.ensures.1
-    (reading_wider c.args.volume.now.seen c.loop-next.volume.seen c.add_piece.new.volume.seen c.add_piece.new.volume.seen by
-    (pieces_faults c.args.volume.now c.loop-next.volume c.args.file c.args.at c.loop-next.next c.args.end c.args.out.now.items c.loop-next.out.items
-    c.loop-next.invariant.reading) (omega arith) c.in_err-next.ensures.cause)
+    (pieces_failed c.args.volume.now c.loop-next.volume c.add_piece.new.volume c.args.file c.args.at
+    c.loop-next.next c.args.end c.args.out.now.items
+    c.loop-next.out.items by c.loop-next.invariant.reading c.loop-next-test.true
+    c.in_err-next.ensures.cause)
+
+pub returns-in_err-next-clause-idle : goal.returns-in_err-next-clause-idle
+returns-in_err-next-clause-idle g c = λ none.
+    absurd (omega (
+      arith,
+      none,
+      pieces_begun c.args.volume.now c.loop-next.volume c.args.file c.args.at c.loop-next.next
+          c.args.end c.args.out.now.items c.loop-next.out.items
+          c.loop-next.invariant.reading c.loop-next-test.true,
+    ))
 
 pub returns-in_err-next-clause-same : goal.returns-in_err-next-clause-same
 returns-in_err-next-clause-same g c =
@@ -78,4 +89,16 @@ returns-clause-front g c =
 pub returns-clause-reads : goal.returns-clause-reads
 returns-clause-reads g c =
     pieces_reads c.args.volume.now c.loop-next.volume c.args.file c.args.at c.loop-next.next c.args.end c.args.out.now.items c.loop-next.out.items
+    c.loop-next.invariant.reading
+
+pub returns-clause-quiet : goal.returns-clause-quiet
+returns-clause-quiet g c =
+    pieces_quiet c.args.volume.now c.loop-next.volume c.args.file c.args.at c.loop-next.next
+    c.args.end c.args.out.now.items c.loop-next.out.items
+    c.loop-next.invariant.reading
+
+pub returns-clause-idle : goal.returns-clause-idle
+returns-clause-idle g c =
+    pieces_idle c.args.volume.now c.loop-next.volume c.args.file c.args.at c.loop-next.next
+    c.args.end c.args.out.now.items c.loop-next.out.items
     c.loop-next.invariant.reading

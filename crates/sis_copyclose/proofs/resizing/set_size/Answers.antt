@@ -38,5 +38,7 @@ returns-clause-leaves g c =
     let v = c.args.volume.now in
     let change = size_change v.table c.args.file c.size_in.result c.args.len c.requires.limit c.if-size_in-len.false c.requires.there c.size_in.ensures.size in
     size_done v c.stage_change.new.volume c.args.file c.args.len (sym c.down.ensures ∙ c.in_default.is) change
-    c.in_ok-txn.txn.edits c.in_ok-txn.ensures.staged c.in_ok-txn.ensures.ready c.apply.new.self c.apply.result c.apply.ensures.ok c.apply.ensures.err
+    c.in_ok-txn.txn.edits c.in_ok-txn.ensures.staged c.in_ok-txn.ensures.ready
+    c.in_ok-txn.ensures.quiet c.apply.new.self c.apply.result c.apply.ensures.ok
+    c.apply.ensures.err
     c.apply.ensures.cause

@@ -37,14 +37,15 @@ returns-in_err-texts-clause-fails g c =
     given_up c.from_residual-in_err-texts.result by _ c.from_residual-in_err-texts.ensures.1
     (text_short c.args.volume.now c.args.file c.args.size c.args.at (length c.args.bytes.now) c.plan_in-plan.result c.requires.up
     c.plan_in-plan.ensures.table c.plan_in-plan.ensures.plan c.make_room.new.volume c.texts_of.new.volume c.in_ok-make_room.ensures.ready
-    c.texts_of.ensures.works by c.if-plan-ge-GREATEST_NUMBER.false c.in_ok-make_room.ensures.fits c.in_err-texts.ensures.cause)
+    c.texts_of.ensures.works by c.if-plan-ge-GREATEST_NUMBER.false c.in_ok-make_room.ensures.fits
+    c.in_ok-make_room.ensures.quiet c.in_err-texts.ensures.cause)
 
 pub returns-in_err-txn-clause-fails : goal.returns-in_err-txn-clause-fails
 returns-in_err-txn-clause-fails g c =
     given_up c.from_residual-in_err-txn.result hindrance.Memory _ c.from_residual-in_err-txn.ensures.1
     (memory_of c.args.volume.now c.args.file c.args.size c.args.at (length c.args.bytes.now) c.plan_in-plan.result c.requires.up
     c.plan_in-plan.ensures.table c.plan_in-plan.ensures.plan c.make_room.new.volume c.texts_of.new.volume c.in_ok-make_room.ensures.ready
-    c.texts_of.ensures.works)
+    c.texts_of.ensures.works (c.in_ok-texts.ensures.quiet ∙ c.in_ok-make_room.ensures.quiet))
 
 pub stage_texts-requires-clause-up : goal.stage_texts-requires-clause-up
 stage_texts-requires-clause-up g c =
@@ -63,7 +64,8 @@ returns-in_err-stage_texts-clause-fails g c =
     (stage_short c.args.volume.now c.args.file c.args.size c.args.at (length c.args.bytes.now) c.plan_in-plan.result c.requires.up
     c.plan_in-plan.ensures.table c.plan_in-plan.ensures.plan c.make_room.new.volume c.texts_of.new.volume c.in_ok-make_room.ensures.ready
     c.texts_of.ensures.works c.stage_texts.new.volume by c.stage_texts.ensures.works c.if-plan-ge-GREATEST_NUMBER.false
-    c.in_ok-make_room.ensures.fits c.in_err-stage_texts.ensures.cause)
+    c.in_ok-make_room.ensures.fits (c.in_ok-texts.ensures.quiet ∙ c.in_ok-make_room.ensures.quiet)
+    c.in_err-stage_texts.ensures.cause)
 
 pub returns-clause-ready : goal.returns-clause-ready
 returns-clause-ready g c =

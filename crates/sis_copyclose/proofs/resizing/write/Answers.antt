@@ -53,5 +53,6 @@ returns-clause-leaves g c =
     let change = write_change v.table c.args.file c.size_in.result c.max-size.result c.args.at (length c.args.bytes.now) some
     (omega arith) c.size_in.ensures.limit c.requires.end c.requires.there c.size_in.ensures.size in
     write_done v c.stage_change.new.volume c.args.file c.max-size.result c.args.at c.args.bytes.now (sym c.down.ensures ∙ c.in_default.is) change
-    c.in_ok-txn.txn.edits c.in_ok-txn.ensures.staged c.in_ok-txn.ensures.ready c.apply.new.self c.apply.result c.apply.ensures.ok c.apply.ensures.err
+    c.in_ok-txn.txn.edits c.in_ok-txn.ensures.staged c.in_ok-txn.ensures.ready
+    c.in_ok-txn.ensures.quiet c.apply.new.self c.apply.result c.apply.ensures.ok c.apply.ensures.err
     c.apply.ensures.cause some

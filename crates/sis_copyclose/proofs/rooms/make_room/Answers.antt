@@ -14,7 +14,7 @@ returns-clause-ready g c =
     c.requires.sized c.room.ensures.table c.room.ensures.images c.room.ensures.files
     c.room.ensures.blocks c.room.ensures.elapses c.room.ensures.calls c.room.result
     c.room.ensures.enough c.room.ensures.ok c.room.ensures.full c.room.ensures.cause
-    c.room.ensures.up
+    c.room.ensures.well
 
 pub returns-clause-fails : goal.returns-clause-fails
 returns-clause-fails g c =
