@@ -63,7 +63,7 @@ fails_now before now first at old new c may one two failed =
     AnswersDown o now (stage_of old) c (reply.Hindered (hindrance.Down at)) (stage_of new)) (sym one)
     (subst (λ (o : Option ℕ).
     AnswersDown None o (stage_of old) c (reply.Hindered (hindrance.Down at)) (stage_of new))
-    (sym two) (may, refl, failed.rose, failed.low, last_call failed.told))
+    (sym two) (may, refl, failed.rose, failed.once, failed.low, last_call failed.told))
   where
     last_call : {P Q : Type 0}
         → ((new.seen.calls ≡ at + 1) × P) ⊎ ((new.seen.calls ≡ at) × Q)

@@ -169,9 +169,9 @@ put_cause : (old new : VolumeView) (name bytes : List ℕ) (by : Hindrance)
 put_cause old new name bytes (hindrance.Limit kind) is h = h.0
 put_cause old new name bytes (hindrance.Full needed used_now total) is h = h.0
 put_cause old new name bytes (hindrance.TableFull needed cap) is h =
-    let next = h.1 in
+    let next = h.2 in
     (h.0, (next.0, next.1, is_table_with old.table next.0 name bytes is h.0 next.1, next.2))
-put_cause old new name bytes hindrance.Disk is h = h
+put_cause old new name bytes hindrance.Disk is h = (h.0, h.1)
 put_cause old new name bytes (hindrance.Down at) is h = tt
 put_cause old new name bytes hindrance.Memory is h = tt
 

@@ -142,8 +142,8 @@ MayReachCommit v command.Sync = ⊤
 MayReachCommit v command.End = ⊤
 MayReachCommit v _ = ⊥
 
--- Only such a command's commit fails, and by a fault of the disk in this step, which is its last
--- call, or was refused behind it. From then on each command is answered so, and the disk isn't
+-- Only such a command's commit fails, and by the one fault of the disk in this step, which is its
+-- last call, or was refused behind it. From then on each command is answered so, and the disk isn't
 -- called.
 abbrev pub AnswersDown : Option ℕ → Option ℕ → Stage → Command → Reply → Stage → Type 0
 AnswersDown (Some at) now s c r t =
@@ -152,7 +152,7 @@ AnswersDown (Some at) now s c r t =
 AnswersDown None None s c r t = is_down r ≡ false
 AnswersDown None (Some at) s c r t =
     MayReachCommit s.table c × (r ≡ reply.Hindered (hindrance.Down at)) × Rose s.faults t.faults
-    × (s.calls ≤ at) × ((t.calls ≡ at + 1) ⊎ (t.calls ≡ at))
+    × (t.faults ≤ s.faults + 1) × (s.calls ≤ at) × ((t.calls ≡ at + 1) ⊎ (t.calls ≡ at))
 
 -- From one stage to the next by one entry. Its table is one again.
 pub record IsStep (s : Stage) (e : Entry) (t : Stage) : Type 0 where
