@@ -222,3 +222,29 @@ world_as w client c (IsHindered first) = w
 -- the world after a command with its reply: only one that is carried out changes it
 abbrev pub world_with : World → ℕ → Command → Reply → World
 world_with w client c r = world_as w client c (kind_of r)
+
+-- a copy of the reply may take memory: it has bytes or names, or files that were not settled
+abbrev pub holds_memory : Reply → Bool
+holds_memory reply.Done = false
+holds_memory (reply.Opened number) = false
+holds_memory (reply.Read bytes) = true
+holds_memory (reply.Closed fate) = false
+holds_memory (reply.Sized size) = false
+holds_memory (reply.Names names more) = true
+holds_memory (reply.Told kind) = false
+holds_memory (reply.Space used total) = false
+holds_memory (reply.Groveled report) = false
+holds_memory (reply.Ended closed unsettled) = nat_lt 0 (length unsettled)
+holds_memory reply.InvalidOpen = false
+holds_memory reply.InvalidParameter = false
+holds_memory (reply.InvalidRequest fault) = false
+holds_memory reply.InvalidDeviceRequest = false
+holds_memory reply.AccessDenied = false
+holds_memory reply.NotShared = false
+holds_memory reply.NameInvalid = false
+holds_memory reply.NotFound = false
+holds_memory reply.Collision = false
+holds_memory reply.InUse = false
+holds_memory reply.NotSameDevice = false
+holds_memory (reply.Unsettled left) = false
+holds_memory (reply.Hindered by) = false

@@ -1,5 +1,5 @@
 //! The lines of a script, and the history of a run.
-ghost use Rattle.std.specs.Prelude.{◌≡◌, ◌++◌, ◌∷◌, [], ◌+◌, ◌<◌, ◌≤◌, OnOk};
+ghost use Rattle.std.specs.Prelude.{◌≡◌, ◌++◌, ◌∷◌, [], ◌+◌, ◌<◌, ◌≤◌, ◌^◌, length, OnOk};
 
 use crate::{Command, Reply};
 use std::alloc::{AllocError, Global};
@@ -67,6 +67,13 @@ impl History {
         self.entries.reserve(count)
     }
 
+    /// For how many more entries there is room. Takes no memory.
+    pub fn spare(&self) -> usize
+        ensures { result ≡ self.now.spare }
+    {
+        self.entries.capacity() - self.entries.len()
+    }
+
     /// Adds an entry for which there is room. Takes no memory.
     pub fn push(&mut self, entry: Entry)
         requires { 0 < self.old.spare }
@@ -74,6 +81,14 @@ impl History {
         ensures spare { self.old.spare ≤ self.new.spare + 1 }
     {
         self.entries.push(entry).unwrap();
+    }
+
+    /// How many entries there are.
+    pub fn len(&self) -> usize
+        ensures len { result ≡ length self.now.entries }
+        ensures small { result < 2 ^ 63 }
+    {
+        self.entries.len()
     }
 
     /// The entries.

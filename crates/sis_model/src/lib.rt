@@ -9,15 +9,19 @@ ghost use Rattle.sis_model.specs.declared.history.Line.{Line as ALine};
 ghost use Rattle.sis_model.specs.declared.reply.Reply.{Reply as AReply};
 ghost use Rattle.sis_model.specs.Answer.{MayReply, world_with, kind_of, IsDone};
 ghost use Rattle.sis_model.specs.History.{IsLegal, world_after};
+ghost use Rattle.sis_model.specs.Opens.{IsWorld};
 ghost use Rattle.sis_model.specs.Order.{commands_of, exec_order, expected_calls};
-ghost use Rattle.sis_model.specs.World.{World};
+ghost use Rattle.sis_model.specs.World.{World, unopened};
+ghost use Rattle.sis_name.specs.Files.{Files};
 
 mod bytes;
 mod command;
 mod history;
 mod names;
+mod past;
 mod range;
 mod reply;
+mod stale;
 #[cfg(test)]
 mod tests;
 mod unsettled;
@@ -26,9 +30,11 @@ pub use bytes::Bytes;
 pub use command::Command;
 pub use history::{Entry, History, Line};
 pub use names::NameList;
+pub use past::Past;
 pub use range::ByteRange;
 pub use reply::{Fate, GrovelReport, Hindrance, Kind, LimitKind, Reply};
 pub use sis_request::{Field, RequestFault};
+pub use stale::Stale;
 pub use unsettled::{UnsettledFile, UnsettledList};
 
 /// In the order of a run each client makes its own commands, and then its end.
@@ -57,4 +63,17 @@ pub fn refused_or_hindered_leaves_the_world()
     ensures { (w : World) (client : ℕ) (command : ACommand) (reply : AReply)
         → ¬ (kind_of reply ≡ IsDone)
         → world_with w client command reply ≡ w }
+{}
+
+/// Files of which none is open are a world, and a world stays one with each reply that it allows.
+pub fn worlds_stay_worlds()
+    ensures first { (letter : ℕ) (files : Files) → IsWorld (unopened letter files) }
+    ensures next { (w : World) (client : ℕ) (command : ACommand) (reply : AReply)
+        → IsWorld w
+        → MayReply w client command reply
+        → IsWorld (world_with w client command reply) }
+    ensures last { (w : World) (es : List AnEntry)
+        → IsWorld w
+        → IsLegal w es
+        → IsWorld (world_after w es) }
 {}

@@ -1,5 +1,5 @@
 //! Some names, which contracts see as a list.
-ghost use Rattle.std.specs.Prelude.{◌≡◌, ◌++◌, ◌∷◌, [], OnOk, OnErr};
+ghost use Rattle.std.specs.Prelude.{◌≡◌, ◌++◌, ◌∷◌, [], IfOk, OnOk, OnErr};
 
 use sis_name::Name;
 use std::alloc::{AllocError, Global};
@@ -19,6 +19,17 @@ impl Model for NameList {
     ghost view = { λ l. l.names.items };
 }
 
+// These names.
+fn copy_of(alloc: Global, names: &[Name]) -> Result<NameList, AllocError>
+    ensures { IfOk result (λ copy. copy ≡ names.now) }
+{
+    let mut copy = NameList::new(alloc);
+    for name in names {
+        copy.push(name.copy(alloc)?)?;
+    }
+    Ok(copy)
+}
+
 impl NameList {
     /// No names. Takes no memory.
     pub fn new(alloc: Global) -> NameList
@@ -36,6 +47,13 @@ impl NameList {
     {
         self.names.push(name)?;
         Ok(())
+    }
+
+    /// The same names.
+    pub fn copy(&self, alloc: Global) -> Result<NameList, AllocError>
+        ensures { IfOk result (λ names. names ≡ self.now) }
+    {
+        copy_of(alloc, &self.names)
     }
 
     /// The names.

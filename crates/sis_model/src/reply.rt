@@ -1,7 +1,10 @@
 //! What a client is answered.
+ghost use Rattle.std.specs.Prelude.{◌≡◌, true, IfOk, OnErr};
+ghost use Rattle.sis_model.specs.Answer.{holds_memory};
+
 use crate::{Bytes, NameList, UnsettledList};
 use sis_request::RequestFault;
-use std::alloc::AllocError;
+use std::alloc::{AllocError, Global};
 
 /// What there is too much of.
 #[derive(Clone, Copy, Debug, PartialEq, Eq)]
@@ -211,4 +214,49 @@ pub enum Reply {
         /// By what.
         by: Hindrance,
     },
+}
+
+impl Reply {
+    /// The same reply once more, for the history.
+    pub fn copy(&self, alloc: Global) -> Result<Reply, AllocError>
+        ensures ok { IfOk result (λ copy. copy ≡ self.now) }
+        ensures err { OnErr result (holds_memory self.now ≡ true) }
+    {
+        Ok(match self {
+            Reply::Done => Reply::Done,
+            Reply::Opened { number } => Reply::Opened { number: *number },
+            Reply::Read { bytes } => Reply::Read {
+                bytes: bytes.copy(alloc)?,
+            },
+            Reply::Closed { fate } => Reply::Closed { fate: *fate },
+            Reply::Sized { size } => Reply::Sized { size: *size },
+            Reply::Names { names, more } => Reply::Names {
+                names: names.copy(alloc)?,
+                more: *more,
+            },
+            Reply::Told { kind } => Reply::Told { kind: *kind },
+            Reply::Space { used, total } => Reply::Space {
+                used: *used,
+                total: *total,
+            },
+            Reply::Groveled { report } => Reply::Groveled { report: *report },
+            Reply::Ended { closed, unsettled } => Reply::Ended {
+                closed: *closed,
+                unsettled: unsettled.copy(alloc)?,
+            },
+            Reply::InvalidOpen => Reply::InvalidOpen,
+            Reply::InvalidParameter => Reply::InvalidParameter,
+            Reply::InvalidRequest { fault } => Reply::InvalidRequest { fault: *fault },
+            Reply::InvalidDeviceRequest => Reply::InvalidDeviceRequest,
+            Reply::AccessDenied => Reply::AccessDenied,
+            Reply::NotShared => Reply::NotShared,
+            Reply::NameInvalid => Reply::NameInvalid,
+            Reply::NotFound => Reply::NotFound,
+            Reply::Collision => Reply::Collision,
+            Reply::InUse => Reply::InUse,
+            Reply::NotSameDevice => Reply::NotSameDevice,
+            Reply::Unsettled { left } => Reply::Unsettled { left: *left },
+            Reply::Hindered { by } => Reply::Hindered { by: *by },
+        })
+    }
 }

@@ -18,6 +18,7 @@ fn a_history_has_the_entries_that_were_added(rt: HostRuntime) -> Result<(), Fail
 
     let mut history = History::new(rt.alloc());
     history.reserve(1)?;
+    assert!(rt; history.spare() >= 1);
     history.push(Entry {
         client: 1,
         command: Command::Put {
@@ -28,6 +29,7 @@ fn a_history_has_the_entries_that_were_added(rt: HostRuntime) -> Result<(), Fail
         decided: 0,
         answered: 2,
     });
+    assert_eq!(rt; history.len(), 1);
     assert_eq!(rt; history.as_slice().len(), 1);
     assert!(rt; matches!(history.as_slice()[0].reply, Reply::Done));
     Ok(())
@@ -47,6 +49,36 @@ fn lists_have_what_was_added(rt: HostRuntime) -> Result<(), Fail> {
         cause: Hindrance::Disk,
     })?;
     assert_eq!(rt; files.as_slice()[0].left, 3);
+    Ok(())
+}
+
+#[test]
+fn a_copy_of_a_reply_is_equal(rt: HostRuntime) -> Result<(), Fail> {
+    let read = Reply::Read {
+        bytes: Bytes::from_vec(CONTENT.to_vec(rt.alloc())?),
+    };
+    match read.copy(rt.alloc())? {
+        Reply::Read { bytes } => assert_eq!(rt; bytes.as_slice(), CONTENT.as_slice()),
+        _ => panic!(rt; "the copy is of another kind"),
+    }
+
+    let mut unsettled = UnsettledList::new(rt.alloc());
+    unsettled.push(UnsettledFile {
+        name: Name::from_text(rt.alloc(), "a")?,
+        left: 3,
+        cause: Hindrance::Down { at: 7 },
+    })?;
+    let ended = Reply::Ended {
+        closed: 2,
+        unsettled,
+    };
+    match ended.copy(rt.alloc())? {
+        Reply::Ended { closed, unsettled } => {
+            assert_eq!(rt; closed, 2);
+            assert_eq!(rt; unsettled.as_slice()[0].cause, Hindrance::Down { at: 7 });
+        }
+        _ => panic!(rt; "the copy is of another kind"),
+    }
     Ok(())
 }
 

@@ -1,5 +1,5 @@
 //! The files that an end left unsettled, which contracts see as a list.
-ghost use Rattle.std.specs.Prelude.{◌≡◌, ◌++◌, ◌∷◌, [], OnOk, OnErr};
+ghost use Rattle.std.specs.Prelude.{◌≡◌, ◌++◌, ◌∷◌, [], IfOk, IsOk, OnOk, OnErr};
 
 use crate::Hindrance;
 use sis_name::Name;
@@ -17,6 +17,19 @@ pub struct UnsettledFile {
     pub cause: Hindrance,
 }
 
+impl UnsettledFile {
+    // The same file.
+    fn copy(&self, alloc: Global) -> Result<UnsettledFile, AllocError>
+        ensures { IfOk result (λ copy. copy ≡ self.now) }
+    {
+        Ok(UnsettledFile {
+            name: self.name.copy(alloc)?,
+            left: self.left,
+            cause: self.cause,
+        })
+    }
+}
+
 /// Some files that were not settled.
 #[derive(Debug, Drop)]
 pub struct UnsettledList {
@@ -30,6 +43,18 @@ impl Model for UnsettledList {
     ghost Value = { List UnsettledFile };
 
     ghost view = { λ l. l.files.items };
+}
+
+// These files.
+fn copy_of(alloc: Global, files: &[UnsettledFile]) -> Result<UnsettledList, AllocError>
+    ensures ok { IfOk result (λ copy. copy ≡ files.now) }
+    ensures none { files.now ≡ [] → IsOk result }
+{
+    let mut copy = UnsettledList::new(alloc);
+    for file in files {
+        copy.push(file.copy(alloc)?)?;
+    }
+    Ok(copy)
 }
 
 impl UnsettledList {
@@ -49,6 +74,14 @@ impl UnsettledList {
     {
         self.files.push(file)?;
         Ok(())
+    }
+
+    /// The same files. Takes no memory where there are none.
+    pub fn copy(&self, alloc: Global) -> Result<UnsettledList, AllocError>
+        ensures ok { IfOk result (λ files. files ≡ self.now) }
+        ensures none { self.now ≡ [] → IsOk result }
+    {
+        copy_of(alloc, &self.files)
     }
 
     /// The files.
