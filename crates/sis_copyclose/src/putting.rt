@@ -1,5 +1,5 @@
 //! Makes files.
-ghost use Rattle.std.specs.Prelude.{◌≡◌, ℕ, ◌*◌, ◌<◌, ◌≤◌, ◌∷◌, [], None, Some, false, length, IfErr, IfOk, IfSome, OnErr, OnOk};
+ghost use Rattle.std.specs.Prelude.{◌≡◌, ℕ, ◌*◌, ◌<◌, ◌≤◌, [], None, Some, false, length, IfErr, IfOk, IfSome, OnErr, OnOk};
 ghost use Rattle.std.specs.FinMap.{insert};
 ghost use Rattle.std.specs.List.{list_any};
 ghost use Rattle.sis_disk.specs.Record.{live_of};
@@ -7,8 +7,7 @@ ghost use Rattle.sis_history.specs.Needs.{hindrance_of, put_need};
 ghost use Rattle.sis_model.specs.World.{resized};
 ghost use Rattle.sis_name.specs.Name.{IsName};
 ghost use Rattle.sis_name.specs.Units.{is_store_name};
-ghost use Rattle.sis_table.specs.declared.edit.Edit.TheVariants as edit;
-ghost use Rattle.sis_table.specs.declared.kind.NodeKind.TheVariants as kinds;
+ghost use Rattle.sis_table.specs.Changes.{make_edits};
 ghost use Rattle.sis_table.specs.Volume.{IsTable, blocks_of, greatest_number, greatest_size, has_name, most_nodes};
 ghost use Rattle.sis_copyclose.specs.Changed.{IsWithFile};
 ghost use Rattle.sis_copyclose.specs.Inside.{GivesUp, Readies, StagesFile};
@@ -19,14 +18,9 @@ use crate::staging::stage_blocks;
 use sis_disk::{BLOCK_LEN, Disk};
 use sis_model::{Hindrance, LimitKind};
 use sis_name::Name;
-use sis_table::{Edit, NodeKind};
+use sis_table::{Edit, GREATEST_NUMBER, MOST_FILES, NodeKind};
 use sis_volume::{Txn, Volume};
 use std::alloc::{AllocError, Global};
-
-/// The most files of a volume.
-const MOST_FILES: u64 = 65_536;
-/// The greatest id, and the last next id.
-const GREATEST_NUMBER: u64 = 9_223_372_036_854_775_807;
 
 // The limit that one more file would pass.
 fn new_file_limit<D: Disk>(volume: &Volume<D>) -> Option<LimitKind>
@@ -63,8 +57,7 @@ fn whole_blocks(alloc: Global, bytes: &[u8]) -> Result<Vec<u8>, AllocError>
 
 // The edits that make a file of this size whose blocks are zeros.
 fn new_file(alloc: Global, id: u64, name: &Name, size: u64) -> Result<Txn, Hindrance>
-    ensures edits { IfOk result (λ txn. txn.edits
-        ≡ edit.Make id kinds.Plain name.now ∷ edit.Size id size ∷ []) }
+    ensures edits { IfOk result (λ txn. txn.edits ≡ make_edits id name.now size []) }
     ensures name { IfOk result (λ txn. IsName name.now) }
     ensures memory { IfErr result (λ by. by ≡ Hindrance.Memory) }
 {

@@ -9,7 +9,6 @@ ghost use Rattle.sis_copyclose.specs.Changed.{IsWithoutFile};
 ghost use Rattle.sis_copyclose.specs.Operating.{Operates};
 
 use crate::Stale;
-use crate::limits::keeps_limits;
 use sis_disk::Disk;
 use sis_model::Hindrance;
 use sis_table::Edit;
@@ -33,7 +32,6 @@ pub fn remove<D: Disk>(
     if let Some(at) = volume.down() {
         return Err(Hindrance::Down { at });
     }
-    keeps_limits(volume);
     let mut txn = Txn::begin(alloc);
     txn.push(Edit::Drop { id: file })?;
     volume.apply(&txn)?;

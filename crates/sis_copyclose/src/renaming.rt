@@ -9,7 +9,6 @@ ghost use Rattle.sis_table.specs.Volume.{has_name, node_with};
 ghost use Rattle.sis_copyclose.specs.Changed.{IsRenamed, with_new_name};
 ghost use Rattle.sis_copyclose.specs.Operating.{Operates};
 
-use crate::limits::keeps_limits;
 use sis_disk::Disk;
 use sis_model::Hindrance;
 use sis_name::Name;
@@ -34,7 +33,6 @@ pub fn rename<D: Disk>(
     if let Some(at) = volume.down() {
         return Err(Hindrance::Down { at });
     }
-    keeps_limits(volume);
     let mut txn = Txn::begin(alloc);
     txn.push(Edit::Rename {
         id: file,

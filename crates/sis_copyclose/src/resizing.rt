@@ -21,12 +21,9 @@ use crate::staging::stage_blocks;
 use crate::texts::{Texts, texts_of};
 use sis_disk::{BLOCK_LEN, Disk};
 use sis_model::{Hindrance, LimitKind};
-use sis_table::Edit;
+use sis_table::{Edit, GREATEST_NUMBER};
 use sis_volume::{Txn, Volume};
 use std::alloc::{AllocError, Global};
-
-/// The greatest version of a file.
-const GREATEST_NUMBER: u64 = 9_223_372_036_854_775_807;
 
 // Takes the blocks behind a new size out of the file's map.
 fn cut(txn: &mut Txn, file: u64, old: u64, size: u64) -> Result<(), AllocError>

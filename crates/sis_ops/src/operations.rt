@@ -10,14 +10,12 @@ use crate::refusal::Refusal;
 use sis_copyclose::ByteRange;
 use sis_disk::Memory;
 use sis_name::Name;
-use sis_table::Edit;
+use sis_table::{Edit, GREATEST_NUMBER};
 use sis_volume::{Txn, Volume};
 use std::alloc::Global;
 
 /// The greatest size of a file.
 const GREATEST_SIZE: u64 = 68_719_476_736;
-/// The greatest version of a file.
-const GREATEST_NUMBER: u64 = 9_223_372_036_854_775_807;
 
 // A plain file has the id.
 fn is_file(volume: &Volume<Memory>, file: u64) -> Result<(), Refusal>

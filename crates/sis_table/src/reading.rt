@@ -10,19 +10,14 @@ ghost use Rattle.sis_reading.specs.Steps.{Gives, guard};
 ghost use Rattle.sis_table.specs.Reading.{joins, end_before, kind_at, map_at, run_at, runs_at, node_at, nodes_at, head_at, table_at};
 
 use crate::files::Files;
-use crate::{Layout, Node, NodeKind, TableFault, TableKind};
+use crate::{
+    GREATEST_NUMBER, GREATEST_SIZE, Layout, MOST_FILES, Node, NodeKind, TableFault, TableKind,
+};
 use byteorder::{ByteOrder, LittleEndian};
 use sis_disk::BLOCK_LEN;
 use sis_name::{Name, NameFault};
 use sis_ranges::{Extents, Run};
 use std::alloc::Global;
-
-/// The greatest id, version and index.
-const GREATEST_NUMBER: u64 = 9_223_372_036_854_775_807;
-/// The greatest size of a file, in bytes.
-const GREATEST_SIZE: u64 = 68_719_476_736;
-/// The greatest number of files.
-const MOST_NODES: u32 = 65_536;
 
 /// The fault of the field that begins where these bytes do, the last ones of so many.
 fn fault(total: usize, bytes: &[u8], kind: TableKind) -> TableFault
@@ -401,7 +396,7 @@ fn head_of(total: usize, bytes: &[u8]) -> Result<(u64, u64, u32, &[u8]), TableFa
         return Err(fault(total, after_next, TableKind::Greatest));
     }
     let (count, rest) = u32_at(total, after_greatest)?;
-    if count > MOST_NODES {
+    if u64::from(count) > MOST_FILES {
         return Err(fault(total, after_greatest, TableKind::Count));
     }
     Ok((next_id, greatest, count, rest))

@@ -1,11 +1,11 @@
 //! Opens a disk as a volume: the journal reads it, and the table's files are judged.
-ghost use Rattle.std.specs.Prelude.{◌≡◌, ◌≢◌, None, Ok, false, IfOk, IfErr, IfSome, IsErrOf, OnOk};
+ghost use Rattle.std.specs.Prelude.{◌≡◌, ◌≢◌, ◌*◌, None, Ok, false, IfOk, IfErr, IfSome, IsErrOf, OnOk};
 ghost use Rattle.sis_disk.specs.Record.{live_of};
 ghost use Rattle.sis_journal.specs.Opening.{Caused, CountsFault, IsSynced, SyncThenReads};
 ghost use Rattle.sis_journal.specs.declared.fault.OpenFault.TheVariants as faults;
 ghost use Rattle.sis_table.specs.Good.{IsGood};
 ghost use Rattle.sis_table.specs.Image.{image_at};
-ghost use Rattle.sis_table.specs.Volume.{used_places};
+ghost use Rattle.sis_table.specs.Volume.{IsTable, used_places};
 ghost use Rattle.sis_volume.specs.Invariant.{IsVolume};
 ghost use Rattle.sis_volume.specs.Opening.{FailsAs};
 ghost use Rattle.sis_volume.specs.Stopping.{OpensTable};
@@ -78,7 +78,9 @@ impl<D: Disk> Volume<D> {
         // these files.
         ensures image { IfOk result (λ v. IfSome (live_of (D.seen disk))
             (λ live. image_at live ≡ Ok v.table)) }
+        ensures table { IfOk result (λ v. IsTable v.table) }
         ensures good { IfOk result (λ v. IsGood v.table) }
+        ensures size { IfOk result (λ v. v.seen.size ≡ 4096 * v.table.layout.total) }
         ensures opens { IfOk result (λ v. OpensTable v.table v.seen) }
         ensures log { IfOk result (λ v. v.table.layout.log ≡ 0) }
         ensures changed { IfOk result (λ v. v.is_changed ≡ false) }

@@ -71,6 +71,9 @@ impl<D: Disk> Volume<D> {
         ensures calls { result ≡ self.now.seen.calls }
         ensures counted { IfSome self.now.seen.told
             (λ r. length r.calls ≡ self.now.seen.calls) }
+        ensures table { IsTable self.now.table }
+        ensures good { IsGood self.now.table }
+        ensures fits { length (spelling self.now.table) ≤ table_cap self.now.table.layout }
     {
         self.disk.calls()
     }
@@ -166,7 +169,8 @@ impl<D: Disk> Volume<D> {
 
     /// The disk's call by which a commit failed.
     pub fn down(&self) -> Option<u64>
-        ensures { result ≡ self.now.down }
+        ensures down { result ≡ self.now.down }
+        ensures table { IsTable self.now.table }
     {
         self.down
     }

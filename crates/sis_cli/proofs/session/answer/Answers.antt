@@ -25,7 +25,7 @@ pub returns-in-Stat-clause-decides : goal.returns-in-Stat-clause-decides
 returns-in-Stat-clause-decides g c = λ client.
     subst (λ (x : Command). Decides c.args.volume.now c.args.volume.now client x c.stat.result)
     (sym c.in-Stat.is)
-    (stat_decides c.args.volume.now client _ c.stat.result (sym c.down.ensures ∙ c.in_default.is)
+    (stat_decides c.args.volume.now client _ c.stat.result (sym c.down.ensures.down ∙ c.in_default.is)
     c.requires.table (c.stat.ensures client))
 
 pub returns-in-Stat-clause-durable : goal.returns-in-Stat-clause-durable
@@ -41,7 +41,7 @@ returns-in-List-clause-decides g c = λ client.
     Decides c.args.volume.now c.args.volume.now client (command.List after) c.list.result)
     c.as_ref.ensures.value
     (list_decides c.args.volume.now client (option_copied c.as_ref.result) c.list.result
-    (sym c.down.ensures ∙ c.in_default.is) c.requires.table (c.list.ensures client)))
+    (sym c.down.ensures.down ∙ c.in_default.is) c.requires.table (c.list.ensures client)))
 
 pub returns-in-List-clause-durable : goal.returns-in-List-clause-durable
 returns-in-List-clause-durable g c =
@@ -52,7 +52,7 @@ pub returns-in-Space-clause-decides : goal.returns-in-Space-clause-decides
 returns-in-Space-clause-decides g c = λ client.
     subst (λ (x : Command). Decides c.args.volume.now c.args.volume.now client x c.space.result)
     (sym c.in-Space.is)
-    (space_decides c.args.volume.now client c.space.result (sym c.down.ensures ∙ c.in_default.is)
+    (space_decides c.args.volume.now client c.space.result (sym c.down.ensures.down ∙ c.in_default.is)
     c.requires.table (c.space.ensures client))
 
 pub returns-in-Space-clause-durable : goal.returns-in-Space-clause-durable

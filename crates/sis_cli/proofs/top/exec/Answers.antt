@@ -51,7 +51,7 @@ returns-in-Ok-open g c =
     }) c.in-Ok.ensures.taken c.in-Ok.ensures.ended
     c.in-Ok-open.ensures.good c.in-Ok-open.ensures.image
     (record { reads = c.in-Ok-open.ensures.reads; synced = c.in-Ok-open.ensures.synced })
-    c.exec_lines.ensures.size (g.met.D.Disk.sized c.args.disk) c.exec_lines.ensures.table
+    c.in-Ok-open.ensures.size (g.met.D.Disk.sized c.args.disk) c.in-Ok-open.ensures.table
     c.in-Ok-open.ensures.down (g.met.D.Disk.counted c.args.disk) c.in-Ok-open.ensures.opens
-    (c.exec_lines.ensures.runs (g.D.Disk.seen c.args.disk).faults
+    (c.exec_lines.ensures (g.D.Disk.seen c.args.disk).faults
     c.in-Ok-open.ensures.reads.elapses.faults)

@@ -14,14 +14,14 @@ pub returns-in_err-copy : goal.returns-in_err-copy
 returns-in_err-copy g c =
     let v = c.args.volume.now in
     there_map (node_with v.table c.args.file) _ _ (λ n is here.
-    no_memory (IsRenamed v.table c.args.file c.args.name.now) (with_new_name n.name c.args.name.now) v c.from_residual.result (sym c.down.ensures ∙ c.in_default.is) c.from_residual.ensures.1)
+    no_memory (IsRenamed v.table c.args.file c.args.name.now) (with_new_name n.name c.args.name.now) v c.from_residual.result (sym c.down.ensures.down ∙ c.in_default.is) c.from_residual.ensures.1)
     c.requires.there
 
 pub returns-in_err-push : goal.returns-in_err-push
 returns-in_err-push g c =
     let v = c.args.volume.now in
     there_map (node_with v.table c.args.file) _ _ (λ n is here.
-    no_memory (IsRenamed v.table c.args.file c.args.name.now) (with_new_name n.name c.args.name.now) v c.from_residual-in_err-push.result (sym c.down.ensures ∙ c.in_default.is) c.from_residual-in_err-push.ensures.1)
+    no_memory (IsRenamed v.table c.args.file c.args.name.now) (with_new_name n.name c.args.name.now) v c.from_residual-in_err-push.result (sym c.down.ensures.down ∙ c.in_default.is) c.from_residual-in_err-push.ensures.1)
     c.requires.there
 
 pub returns : goal.returns
@@ -29,14 +29,14 @@ returns g c =
     let v = c.args.volume.now in
     let file = c.args.file in
     let name = c.args.name.now in
-    let up = sym c.down.ensures ∙ c.in_default.is in
+    let up = sym c.down.ensures.down ∙ c.in_default.is in
     let only : c.push.new.self.edits ≡ edit.Rename file name ∷ [] =
     ap (λ (t : TxnView). t.edits) c.in_ok-push.ensures.ok ∙ ap (λ (t : TxnView). t.edits ++ edit.Rename file c.in_ok-copy.field-0 ∷ []) c.begin-txn.ensures
     ∙ ap (λ (k : List ℕ). edit.Rename file k ∷ []) c.in_ok-copy.ensures.ok in
     there_map (node_with v.table file) _ _ (λ n is here.
     let may : MayRename v.table n name = record { user = here; is_name = c.copy.ensures.name; store = c.requires.user; free = c.requires.free } in
-    edit_applied (IsRenamed v.table file name) (with_new_name n.name name) v c.apply.new.self c.push.new.self.edits (edit.Rename file name) only up c.keeps_limits.ensures
-    refl (λ was now keeps. renamed_files v.table file n c.keeps_limits.ensures is name may was now keeps)
+    edit_applied (IsRenamed v.table file name) (with_new_name n.name name) v c.apply.new.self c.push.new.self.edits (edit.Rename file name) only up c.down.ensures.table
+    refl (λ was now keeps. renamed_files v.table file n c.down.ensures.table is name may was now keeps)
     (λ was now keeps. renamed_versions v.table (renamed file name v.table) file name was now refl keeps)
     c.apply.result c.apply.ensures.ok c.apply.ensures.err c.apply.ensures.cause)
     c.requires.there

@@ -9,35 +9,35 @@ pub returns-then-size_in-len-clause-leaves : goal.returns-then-size_in-len-claus
 returns-then-size_in-len-clause-leaves g c =
     let v = c.args.volume.now in
     there_map (node_with v.table c.args.file) _ _ (λ n is its.
-    same_size v n (sym c.down.ensures ∙ c.in_default.is) c.size_in.ensures.table (found_by v.table c.args.file n is) c.args.len c.size_in.ensures.sized
+    same_size v n (sym c.down.ensures.down ∙ c.in_default.is) c.size_in.ensures.table (found_by v.table c.args.file n is) c.args.len c.size_in.ensures.sized
     (sym its ∙ c.if-size_in-len.true)) c.size_in.ensures.size
 
 pub returns-in_err-txn-clause-leaves : goal.returns-in_err-txn-clause-leaves
 returns-in_err-txn-clause-leaves g c =
     let v = c.args.volume.now in
     let change = size_change v.table c.args.file c.size_in.result c.args.len c.requires.limit c.if-size_in-len.false c.requires.there c.size_in.ensures.size in
-    size_short v c.stage_change.new.volume c.args.file c.args.len (sym c.down.ensures ∙ c.in_default.is) change
+    size_short v c.stage_change.new.volume c.args.file c.args.len (sym c.down.ensures.down ∙ c.in_default.is) change
     c.from_residual.result c.in_err-txn.field-0.0 c.from_residual.ensures.1 c.in_err-txn.ensures.fails
 
 pub apply-requires-clause-may : goal.apply-requires-clause-may
 apply-requires-clause-may g c =
     let v = c.args.volume.now in
     let change = size_change v.table c.args.file c.size_in.result c.args.len c.requires.limit c.if-size_in-len.false c.requires.there c.size_in.ensures.size in
-    whole_may v c.stage_change.new.volume c.args.file c.args.len 0 [] (sym c.down.ensures ∙ c.in_default.is) change
+    whole_may v c.stage_change.new.volume c.args.file c.args.len 0 [] (sym c.down.ensures.down ∙ c.in_default.is) change
     c.in_ok-txn.txn.edits c.in_ok-txn.ensures.staged c.in_ok-txn.ensures.ready
 
 pub apply-requires-clause-fresh : goal.apply-requires-clause-fresh
 apply-requires-clause-fresh g c =
     let v = c.args.volume.now in
     let change = size_change v.table c.args.file c.size_in.result c.args.len c.requires.limit c.if-size_in-len.false c.requires.there c.size_in.ensures.size in
-    whole_fresh v c.stage_change.new.volume c.args.file c.args.len 0 [] (sym c.down.ensures ∙ c.in_default.is) change
+    whole_fresh v c.stage_change.new.volume c.args.file c.args.len 0 [] (sym c.down.ensures.down ∙ c.in_default.is) change
     c.in_ok-txn.txn.edits c.in_ok-txn.ensures.staged c.in_ok-txn.ensures.ready
 
 pub returns-clause-leaves : goal.returns-clause-leaves
 returns-clause-leaves g c =
     let v = c.args.volume.now in
     let change = size_change v.table c.args.file c.size_in.result c.args.len c.requires.limit c.if-size_in-len.false c.requires.there c.size_in.ensures.size in
-    size_done v c.stage_change.new.volume c.args.file c.args.len (sym c.down.ensures ∙ c.in_default.is) change
+    size_done v c.stage_change.new.volume c.args.file c.args.len (sym c.down.ensures.down ∙ c.in_default.is) change
     c.in_ok-txn.txn.edits c.in_ok-txn.ensures.staged c.in_ok-txn.ensures.ready
     c.in_ok-txn.ensures.quiet c.apply.new.self c.apply.result c.apply.ensures.ok
     c.apply.ensures.err

@@ -10,7 +10,7 @@ returns-then-is_empty-clause-leaves g c =
     let v = c.args.volume.now in
     let none : length c.args.bytes.now ≡ 0 = grind arith in
     there_map (node_with v.table c.args.file) _ _ (λ n is here.
-    nothing_written v n (sym c.down.ensures ∙ c.in_default.is) c.size_in.ensures.table (found_by v.table c.args.file n is) c.args.at
+    nothing_written v n (sym c.down.ensures.down ∙ c.in_default.is) c.size_in.ensures.table (found_by v.table c.args.file n is) c.args.at
     c.args.bytes.now none) c.requires.there
 
 pub stage_change-requires-clause-change : goal.stage_change-requires-clause-change
@@ -25,7 +25,7 @@ returns-in_err-txn-clause-leaves g c =
     let some = some_bytes (length c.args.bytes.now) c.is_empty.result c.is_empty.ensures c.if-is_empty.false in
     let change = write_change v.table c.args.file c.size_in.result c.max-size.result c.args.at (length c.args.bytes.now) some
     (omega arith) c.size_in.ensures.limit c.requires.end c.requires.there c.size_in.ensures.size in
-    write_short v c.stage_change.new.volume c.args.file c.max-size.result c.args.at c.args.bytes.now (sym c.down.ensures ∙ c.in_default.is) change
+    write_short v c.stage_change.new.volume c.args.file c.max-size.result c.args.at c.args.bytes.now (sym c.down.ensures.down ∙ c.in_default.is) change
     c.from_residual.result c.in_err-txn.field-0.0 some c.from_residual.ensures.1 c.in_err-txn.ensures.fails
 
 pub apply-requires-clause-may : goal.apply-requires-clause-may
@@ -34,7 +34,7 @@ apply-requires-clause-may g c =
     let some = some_bytes (length c.args.bytes.now) c.is_empty.result c.is_empty.ensures c.if-is_empty.false in
     let change = write_change v.table c.args.file c.size_in.result c.max-size.result c.args.at (length c.args.bytes.now) some
     (omega arith) c.size_in.ensures.limit c.requires.end c.requires.there c.size_in.ensures.size in
-    whole_may v c.stage_change.new.volume c.args.file c.max-size.result c.args.at c.args.bytes.now (sym c.down.ensures ∙ c.in_default.is) change
+    whole_may v c.stage_change.new.volume c.args.file c.max-size.result c.args.at c.args.bytes.now (sym c.down.ensures.down ∙ c.in_default.is) change
     c.in_ok-txn.txn.edits c.in_ok-txn.ensures.staged c.in_ok-txn.ensures.ready
 
 pub apply-requires-clause-fresh : goal.apply-requires-clause-fresh
@@ -43,7 +43,7 @@ apply-requires-clause-fresh g c =
     let some = some_bytes (length c.args.bytes.now) c.is_empty.result c.is_empty.ensures c.if-is_empty.false in
     let change = write_change v.table c.args.file c.size_in.result c.max-size.result c.args.at (length c.args.bytes.now) some
     (omega arith) c.size_in.ensures.limit c.requires.end c.requires.there c.size_in.ensures.size in
-    whole_fresh v c.stage_change.new.volume c.args.file c.max-size.result c.args.at c.args.bytes.now (sym c.down.ensures ∙ c.in_default.is) change
+    whole_fresh v c.stage_change.new.volume c.args.file c.max-size.result c.args.at c.args.bytes.now (sym c.down.ensures.down ∙ c.in_default.is) change
     c.in_ok-txn.txn.edits c.in_ok-txn.ensures.staged c.in_ok-txn.ensures.ready
 
 pub returns-clause-leaves : goal.returns-clause-leaves
@@ -52,7 +52,7 @@ returns-clause-leaves g c =
     let some = some_bytes (length c.args.bytes.now) c.is_empty.result c.is_empty.ensures c.if-is_empty.false in
     let change = write_change v.table c.args.file c.size_in.result c.max-size.result c.args.at (length c.args.bytes.now) some
     (omega arith) c.size_in.ensures.limit c.requires.end c.requires.there c.size_in.ensures.size in
-    write_done v c.stage_change.new.volume c.args.file c.max-size.result c.args.at c.args.bytes.now (sym c.down.ensures ∙ c.in_default.is) change
+    write_done v c.stage_change.new.volume c.args.file c.max-size.result c.args.at c.args.bytes.now (sym c.down.ensures.down ∙ c.in_default.is) change
     c.in_ok-txn.txn.edits c.in_ok-txn.ensures.staged c.in_ok-txn.ensures.ready
     c.in_ok-txn.ensures.quiet c.apply.new.self c.apply.result c.apply.ensures.ok c.apply.ensures.err
     c.apply.ensures.cause some
