@@ -10,12 +10,9 @@ use crate::refusal::Refusal;
 use sis_copyclose::ByteRange;
 use sis_disk::Memory;
 use sis_name::Name;
-use sis_table::{Edit, GREATEST_NUMBER};
+use sis_table::{Edit, GREATEST_NUMBER, GREATEST_SIZE};
 use sis_volume::{Txn, Volume};
 use std::alloc::Global;
-
-/// The greatest size of a file.
-const GREATEST_SIZE: u64 = 68_719_476_736;
 
 // A plain file has the id.
 fn is_file(volume: &Volume<Memory>, file: u64) -> Result<(), Refusal>
