@@ -7,7 +7,7 @@ use Rattle.std.proofs.lemmas.Bool.Decides.{nat_tests}
 use Rattle.std.proofs.lemmas.Bool.{le-ltb}
 use Rattle.sis_disk.specs.Layout.{data_blocks, first_byte}
 use Rattle.sis_disk.specs.Record.{Rose}
-use Rattle.sis_history.specs.Needs.{Need, hindrance_of, put_need}
+use Rattle.sis_history.specs.Needs.{hindrance_of, IsUnhindered, Need, put_need}
 use Rattle.sis_name.specs.Name.{IsName}
 use Rattle.sis_name.specs.Units.{is_store_name}
 use Rattle.sis_model.specs.World.{World, bytes_of}
@@ -23,7 +23,7 @@ use Rattle.sis_table.specs.declared.kind.NodeKind.TheVariants.{Plain}
 use Rattle.sis_table.proofs.ChangesTable.{IsTable-make}
 use Rattle.sis_volume.specs.View.{VolumeView}
 use Rattle.sis_copyclose.specs.Changed.{IsWithFile}
-use Rattle.sis_copyclose.specs.Hindering.{Hinders, IsUnhindered}
+use Rattle.sis_copyclose.specs.Hindering.{Hinders}
 use Rattle.sis_copyclose.specs.Operating.{EndsBy, Operates}
 use Rattle.sis_cli.specs.Stages.{IsPutCause, AnswersDown}
 use Rattle.sis_cli.specs.Session.{ShowsWorld, Decides, stage_of}

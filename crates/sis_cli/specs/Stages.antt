@@ -4,7 +4,7 @@ use Rattle.std.specs.Prelude.{◌≡◌, ◌⊎◌, ℕ, ◌+◌, ◌≤◌, Boo
 use Rattle.std.specs.List.{list_any}
 use Rattle.sis_disk.specs.Layout.{data_blocks}
 use Rattle.sis_disk.specs.Record.{Rose}
-use Rattle.sis_history.specs.Needs.{hindrance_of, put_need}
+use Rattle.sis_history.specs.Needs.{hindrance_of, IsTooLong, IsUnhindered, put_need}
 use Rattle.sis_model.specs.declared.command.Command.{Command}
 use Rattle.sis_model.specs.declared.command.Command.TheVariants as command
 use Rattle.sis_model.specs.declared.reply.Reply.{Reply}
@@ -14,7 +14,6 @@ use Rattle.sis_model.specs.declared.reply.Hindrance.TheVariants as hindrance
 use Rattle.sis_model.specs.declared.history.Entry.{Entry}
 use Rattle.sis_table.specs.Volume.{VolumeTable, IsTable, used}
 use Rattle.sis_copyclose.specs.Changed.{IsWithFile}
-use Rattle.sis_copyclose.specs.Hindering.{IsTooLong, IsUnhindered}
 
 -- What a hindrance of a put says of the table before it. `rose` is that the disk's faults rose.
 abbrev pub IsPutCause : VolumeTable → Type 0 → List ℕ → List ℕ → Hindrance → Type 0

@@ -3,6 +3,7 @@ use Rattle.std.proofs.Common.{◌≡◌, ℕ, ◌+◌, ◌-◌, ◌*◌, ◌/◌
 use Rattle.std.specs.Prelude.{IfSome, ◌==◌, nat_lt, if◌then◌else◌}
 use Rattle.std.specs.List.{list_any}
 use Rattle.std.proofs.lemmas.Bool.{cases_Bool}
+use Rattle.sis_history.specs.Needs.{IsUnhindered}
 use Rattle.sis_disk.specs.Record.{live_of}
 use Rattle.sis_journal.specs.Committing.{Both}
 use Rattle.sis_table.specs.Changes.{rewrites_end, touched_blocks}
@@ -14,7 +15,6 @@ use Rattle.sis_table.specs.declared.node.Node.{Node}
 use Rattle.sis_table.proofs.ChangesNodes.{there_limits}
 use Rattle.sis_volume.specs.View.{TxnView, VolumeView, fresh, held, maps_to, spare}
 use Rattle.sis_volume.proofs.CallerLemmas.{fresh-unmapped}
-use Rattle.sis_copyclose.specs.Hindering.{IsUnhindered}
 use Rattle.sis_copyclose.specs.Inside.{AreTexts, IsChange, IsPlan, StagesChange, StagesTexts, Works, blocks_alone, first_edits}
 use Rattle.sis_copyclose.specs.Operating.{KeepsPlaces}
 use Rattle.sis_copyclose.specs.declared.plan.Plan.{Plan}

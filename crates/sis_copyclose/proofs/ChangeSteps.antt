@@ -1,7 +1,7 @@
 -- A change of a file, step by step until it is staged.
 use Rattle.std.proofs.Common.{◌≡◌, ℕ, ◌+◌, ◌/◌, ◌<◌, ◌≤◌, List, length, None, Some, refl, sym, ap, ◌∙◌, subst, arith, length-append}
 use Rattle.std.specs.List.{range_with_len}
-use Rattle.sis_history.specs.Needs.{Need, resize_need}
+use Rattle.sis_history.specs.Needs.{IsUnhindered, Need, resize_need}
 use Rattle.sis_model.specs.declared.reply.Hindrance.{Hindrance}
 use Rattle.sis_model.specs.declared.reply.Hindrance.TheVariants as hindrance
 use Rattle.sis_model.specs.declared.reply.LimitKind.TheVariants as limit
@@ -13,7 +13,6 @@ use Rattle.sis_table.proofs.ChangesNodes.{there_limits}
 use Rattle.sis_volume.specs.View.{VolumeView}
 use Rattle.sis_copyclose.specs.Calls.{reads_around}
 use Rattle.sis_copyclose.specs.Changed.{IsWithResize}
-use Rattle.sis_copyclose.specs.Hindering.{IsUnhindered}
 use Rattle.sis_copyclose.specs.Inside.{AsksBlocks, GivesUp, IsPlan, NoTable, Readies, Works, blocks_alone, change_reads, resize_by}
 use Rattle.sis_copyclose.specs.Reading.{HindersReading}
 use Rattle.sis_copyclose.specs.declared.plan.Plan.{Plan}

@@ -9,7 +9,7 @@ use Rattle.sis_disk.specs.Stops.{Elapses}
 use Rattle.sis_disk.proofs.GoesOn.{up_refl, up_well}
 use Rattle.sis_disk.specs.Layout.{data_blocks, first_byte}
 use Rattle.sis_disk.specs.Record.{live_of}
-use Rattle.sis_history.specs.Needs.{Need, hindrance_of}
+use Rattle.sis_history.specs.Needs.{hindrance_of, IsUnhindered, Need}
 use Rattle.sis_journal.specs.Committing.{Both}
 use Rattle.sis_model.specs.declared.reply.Hindrance.{Hindrance}
 use Rattle.sis_model.specs.declared.reply.Hindrance.TheVariants as hindrance
@@ -20,7 +20,7 @@ use Rattle.sis_volume.specs.Stopping.{IsCommitted, MayCommit, StopsWell}
 use Rattle.sis_volume.specs.View.{VolumeView, spare}
 use Rattle.sis_volume.proofs.Stopping.{stops_room}
 use Rattle.sis_copyclose.specs.Calls.{room_calls}
-use Rattle.sis_copyclose.specs.Hindering.{IsUnhindered, LacksRoom}
+use Rattle.sis_copyclose.specs.Hindering.{LacksRoom}
 use Rattle.sis_copyclose.specs.Inside.{AsksBlocks, GivesUp, NoTable, Readies, blocks_alone}
 use Rattle.sis_copyclose.specs.Operating.{KeepsPlaces}
 use Rattle.sis_copyclose.proofs.Needing.{alone_fits, alone_full}

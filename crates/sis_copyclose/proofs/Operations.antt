@@ -8,7 +8,7 @@ use Rattle.sis_disk.specs.Stops.{Elapses}
 use Rattle.sis_disk.proofs.GoesOn.{up_refl}
 use Rattle.sis_disk.specs.Layout.{first_byte, table_cap}
 use Rattle.sis_disk.specs.Record.{Seen, live_of}
-use Rattle.sis_history.specs.Needs.{Need, hindrance_of}
+use Rattle.sis_history.specs.Needs.{hindrance_of, IsUnhindered, Need}
 use Rattle.sis_journal.specs.Committing.{Both}
 use Rattle.sis_model.specs.declared.reply.Hindrance.{Hindrance}
 use Rattle.sis_model.specs.declared.reply.Hindrance.TheVariants as hindrance
@@ -22,7 +22,7 @@ use Rattle.sis_volume.specs.Stopping.{OnlyOpens}
 use Rattle.sis_volume.specs.View.{VolumeView, spare}
 use Rattle.sis_volume.proofs.Stopping.{stops_applied, stops_none}
 use Rattle.sis_copyclose.specs.Calls.{room_calls}
-use Rattle.sis_copyclose.specs.Hindering.{Hinders, IsUnhindered, LacksRoom}
+use Rattle.sis_copyclose.specs.Hindering.{Hinders, LacksRoom}
 use Rattle.sis_copyclose.specs.Inside.{GivesUp, NoTable, Readies}
 use Rattle.sis_copyclose.specs.Operating.{EndsBy, KeepsPlaces, KeepsVersions, MadeRoom, Operates}
 use Rattle.sis_copyclose.specs.Reading.{HindersReading}

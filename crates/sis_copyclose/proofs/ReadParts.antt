@@ -6,6 +6,7 @@ use Rattle.std.proofs.Math.Seq.{take-append-add}
 use Rattle.std.proofs.lemmas.Bool.{cases_lt}
 use Rattle.std.proofs.lemmas.Bool.Decides.{nat_tests}
 use Rattle.std.proofs.lemmas.List.{length-replicate, length-take-le, take-append-le, take-replicate, take_all, take-take}
+use Rattle.sis_history.specs.Needs.{read_end, reads_between, reads_in}
 use Rattle.sis_disk.specs.Record.{Seen, live_of}
 use Rattle.sis_model.specs.World.{resized}
 use Rattle.sis_model.specs.declared.reply.Hindrance.{Hindrance}
@@ -27,7 +28,7 @@ use Rattle.sis_volume.specs.View.{VolumeView}
 use Rattle.sis_volume.proofs.Stopping.{stops_none}
 use Rattle.sis_copyclose.specs.Calls.{one_if, stands_before, stands_behind}
 use Rattle.sis_copyclose.specs.Inside.{AddsBytes, AddsOld, AddsPart, Works}
-use Rattle.sis_copyclose.specs.Reading.{Appends, HindersReading, OnlyLooks, reads_between, reads_in, read_end}
+use Rattle.sis_copyclose.specs.Reading.{Appends, HindersReading, OnlyLooks}
 use Rattle.sis_model.specs.declared.range.ByteRange.{ByteRange}
 use Rattle.sis_copyclose.proofs.Operations.{answered_down, given_up, never_down}
 use Rattle.sis_copyclose.proofs.FileBytes.{found_by, long, there_has, there_is, there_map}

@@ -5,7 +5,7 @@ use Rattle.std.proofs.lemmas.Bool.{ne_eqb, or_right}
 use Rattle.std.proofs.lemmas.Bool.Decides.{nat_tests}
 use Rattle.sis_disk.specs.Layout.{table_cap}
 use Rattle.sis_disk.specs.Record.{live_of}
-use Rattle.sis_history.specs.Needs.{resize_need}
+use Rattle.sis_history.specs.Needs.{IsUnhindered, resize_need}
 use Rattle.sis_journal.specs.Committing.{Both}
 use Rattle.sis_model.specs.World.{overwritten, resized}
 use Rattle.sis_model.specs.declared.reply.Hindrance.{Hindrance}
@@ -28,7 +28,6 @@ use Rattle.sis_table.proofs.ChangesTable.{free_places}
 use Rattle.sis_volume.specs.Applying.{HindersApplying, is_edit}
 use Rattle.sis_volume.specs.View.{VolumeView}
 use Rattle.sis_copyclose.specs.Changed.{IsWithResize, with_bytes}
-use Rattle.sis_copyclose.specs.Hindering.{IsUnhindered}
 use Rattle.sis_copyclose.specs.Inside.{AreTexts, IsChange, IsPlan, Readies, StagesChange, StagesTexts, before_text, behind_text, change_reads, changed_bytes, cut_by, first_edits, resize_by, sized_by}
 use Rattle.sis_copyclose.specs.declared.plan.Plan.{Plan}
 use Rattle.sis_copyclose.specs.Operating.{KeepsPlaces, Operates}

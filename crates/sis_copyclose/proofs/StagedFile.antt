@@ -11,7 +11,7 @@ use Rattle.sis_model.specs.World.{resized}
 use Rattle.sis_model.specs.declared.reply.Hindrance.{Hindrance}
 use Rattle.sis_name.specs.Name.{IsName}
 use Rattle.sis_name.specs.Units.{is_store_name}
-use Rattle.sis_history.specs.Needs.{put_need}
+use Rattle.sis_history.specs.Needs.{IsUnhindered, put_need}
 use Rattle.sis_places.specs.Places.{PlacesView}
 use Rattle.sis_ranges.specs.declared.run.Run.{Run}
 use Rattle.sis_ranges.specs.Extents.{IsChain}
@@ -34,7 +34,6 @@ use Rattle.sis_volume.specs.Staging.{Stages}
 use Rattle.sis_volume.specs.View.{TxnView, VolumeView, fresh, held, maps_to, spare}
 use Rattle.sis_volume.proofs.CallerLemmas.{fresh-unmapped}
 use Rattle.sis_copyclose.specs.Changed.{IsWithFile}
-use Rattle.sis_copyclose.specs.Hindering.{IsUnhindered}
 use Rattle.sis_copyclose.specs.Inside.{GivesUp, Readies, StagesFile}
 use Rattle.sis_copyclose.specs.Operating.{KeepsPlaces, Operates}
 use Rattle.sis_copyclose.proofs.FileBytes.{files_changed, if_some}

@@ -1,5 +1,6 @@
 -- Which blocks are read for the texts of a change.
 use Rattle.std.proofs.Common.{◌≡◌, ℕ, ◌+◌, ◌-◌, ◌*◌, ◌/◌, ◌%◌, ◌≤◌, refl, ap, subst, arith}
+use Rattle.sis_history.specs.Needs.{reads_in}
 use Rattle.sis_model.specs.declared.range.ByteRange.{ByteRange}
 use Rattle.sis_model.specs.declared.reply.Hindrance.{Hindrance}
 use Rattle.sis_model.specs.declared.reply.Hindrance.TheVariants as hindrance
@@ -9,7 +10,7 @@ use Rattle.sis_table.specs.declared.node.Node.{Node}
 use Rattle.sis_volume.specs.View.{VolumeView}
 use Rattle.sis_copyclose.specs.Calls.{reads_around}
 use Rattle.sis_copyclose.specs.Inside.{Works}
-use Rattle.sis_copyclose.specs.Reading.{HindersReading, reads_in}
+use Rattle.sis_copyclose.specs.Reading.{HindersReading}
 use Rattle.sis_copyclose.proofs.FileBytes.{there_has, there_is, there_map}
 use Rattle.sis_copyclose.proofs.ReadParts.{before_reads, behind_reads, end_reads}
 use Rattle.sis_copyclose.proofs.Works.{reading_wider, works_none, works_then, works_wider}

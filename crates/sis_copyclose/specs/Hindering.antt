@@ -1,24 +1,12 @@
 -- Why an operation is hindered.
-use Rattle.std.specs.Prelude.{◌≡◌, ◌+◌, ◌<◌, ◌≤◌, ℕ, length, None, Some}
-use Rattle.sis_disk.specs.Layout.{table_cap}
+use Rattle.std.specs.Prelude.{◌≡◌, ◌+◌, ◌<◌, ◌≤◌, Some}
 use Rattle.sis_disk.specs.Record.{Rose}
-use Rattle.sis_history.specs.Needs.{Need, hindrance_of}
+use Rattle.sis_history.specs.Needs.{IsTooLong, IsUnhindered, Need, hindrance_of}
 use Rattle.sis_model.specs.declared.reply.Hindrance.{Hindrance}
 use Rattle.sis_model.specs.declared.reply.Hindrance.TheVariants as hindrance
-use Rattle.sis_table.specs.Spelling.{spelling}
 use Rattle.sis_table.specs.Volume.{VolumeTable}
 use Rattle.sis_volume.specs.Room.{WentDown}
 use Rattle.sis_volume.specs.View.{VolumeView, spare}
-
--- the new table has this length, which is above the greatest one of the area
-pub record IsTooLong (v new : VolumeTable) (needed cap : ℕ) : Type 0 where
-  pub size : needed ≡ length (spelling new)
-  pub most : cap ≡ table_cap v.layout
-  pub above : cap < needed
-
--- no limit is met, and there is room
-abbrev pub IsUnhindered : VolumeTable → Need → Type 0
-IsUnhindered v need = hindrance_of v need ≡ None
 
 -- fewer places are spare than blocks are needed, so a commit has to make room
 abbrev pub LacksRoom : Need → VolumeView → Type 0

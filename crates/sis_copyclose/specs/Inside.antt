@@ -5,7 +5,7 @@ use Rattle.sis_disk.specs.Causes.{StaysUp}
 use Rattle.sis_disk.specs.Layout.{first_byte}
 use Rattle.sis_disk.specs.Record.{live_of}
 use Rattle.sis_disk.specs.Stops.{Elapses}
-use Rattle.sis_history.specs.Needs.{Need, hindrance_of, no_need, put_need, resize_need}
+use Rattle.sis_history.specs.Needs.{hindrance_of, IsUnhindered, Need, no_need, put_need, resize_need}
 use Rattle.sis_journal.specs.Committing.{Both}
 use Rattle.sis_model.specs.World.{overwritten, resized}
 use Rattle.sis_model.specs.declared.reply.Hindrance.{Hindrance}
@@ -23,7 +23,7 @@ use Rattle.sis_table.specs.declared.node.Node.{Node}
 use Rattle.sis_volume.specs.Stopping.{OnlyOpens, StopsWell}
 use Rattle.sis_volume.specs.View.{VolumeView, spare}
 use Rattle.sis_copyclose.specs.Calls.{one_if, reads_around, room_calls}
-use Rattle.sis_copyclose.specs.Hindering.{Hinders, IsUnhindered}
+use Rattle.sis_copyclose.specs.Hindering.{Hinders}
 use Rattle.sis_copyclose.specs.Operating.{EndsBy, KeepsPlaces, MadeRoom, StillUp}
 use Rattle.sis_copyclose.specs.declared.plan.Plan.{Plan}
 use Rattle.sis_model.specs.declared.range.ByteRange.{ByteRange}

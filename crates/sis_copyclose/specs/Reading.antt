@@ -1,10 +1,10 @@
 -- What reading gives, and what it leaves.
-use Rattle.std.specs.Prelude.{◌≡◌, ℕ, ◌+◌, ◌-◌, ◌/◌, ◌≤◌, min, nat_lt, if◌then◌else◌, List, ◌++◌, length, take, drop, Option, None, IfSome, Result, Err, IfErr, OnErr, OnOk}
+use Rattle.std.specs.Prelude.{◌≡◌, ℕ, ◌+◌, ◌-◌, ◌≤◌, min, List, ◌++◌, length, take, drop, Option, None, IfSome, Result, Err, IfErr, OnErr, OnOk}
 use Rattle.sis_disk.specs.Record.{Rose, Seen}
 use Rattle.sis_model.specs.declared.reply.Hindrance.{Hindrance}
 use Rattle.sis_model.specs.declared.reply.Hindrance.TheVariants as hindrance
 use Rattle.sis_table.specs.Content.{content_of}
-use Rattle.sis_table.specs.Volume.{VolumeTable, blocks_of}
+use Rattle.sis_table.specs.Volume.{VolumeTable}
 use Rattle.sis_table.specs.declared.node.Node.{Node}
 use Rattle.sis_view.specs.Reading.{OnlyReads}
 use Rattle.sis_volume.specs.View.{VolumeView}
@@ -13,18 +13,6 @@ use Rattle.sis_model.specs.declared.range.ByteRange.{ByteRange}
 -- the bytes of a range, as far as there are some
 abbrev pub range_of : ByteRange → List ℕ → List ℕ
 range_of range bytes = take range.len (drop range.at bytes)
-
--- where the range ends in the file
-abbrev pub read_end : Node → ByteRange → ℕ
-read_end n range = min (range.at + range.len) n.size
-
--- how many blocks have a byte from one up to before another
-abbrev pub reads_between : ℕ → ℕ → ℕ
-reads_between at end = if nat_lt at end then blocks_of end - at / 4096 else 0
-
--- how many blocks of the file the range touches
-abbrev pub reads_in : ByteRange → Node → ℕ
-reads_in range n = reads_between range.at (read_end n range)
 
 -- Behind the old bytes stand those of the file in the range, as far as it goes.
 pub record Appends (v : VolumeTable) (n : Node) (range : ByteRange) (live : Option (List ℕ))

@@ -10,7 +10,6 @@ mod renaming;
 mod resizing;
 mod rooms;
 mod staging;
-mod stale;
 mod texts;
 mod zeros;
 
@@ -19,5 +18,4 @@ pub use reading::read;
 pub use removing::remove;
 pub use renaming::rename;
 pub use resizing::{set_size, write};
-pub use sis_model::ByteRange;
-pub use stale::Stale;
+pub use sis_model::{ByteRange, Stale};

@@ -1,5 +1,6 @@
 //! Reads bytes of files, each of them copied once.
 ghost use Rattle.std.specs.Prelude.{◌≡◌, ◌+◌, ◌*◌, ◌≤◌, true, None, length, take, Err, IfErr, IfOk, IfSome, OnErr, OnOk};
+ghost use Rattle.sis_history.specs.Needs.{read_end, reads_between, reads_in};
 ghost use Rattle.sis_disk.specs.Record.{live_of};
 ghost use Rattle.sis_table.specs.Edits.{IfThere};
 ghost use Rattle.sis_table.specs.Kinds.{plain_node};
@@ -7,7 +8,7 @@ ghost use Rattle.sis_table.specs.Volume.{IsTable, node_with};
 ghost use Rattle.sis_view.specs.Reading.{OnlyReads};
 ghost use Rattle.sis_volume.specs.Stopping.{StopsWell};
 ghost use Rattle.sis_copyclose.specs.Inside.{AddsBytes, AddsPart};
-ghost use Rattle.sis_copyclose.specs.Reading.{Appends, HindersReading, OnlyLooks, reads_between, reads_in, read_end};
+ghost use Rattle.sis_copyclose.specs.Reading.{Appends, HindersReading, OnlyLooks};
 
 use crate::zeros::add_zeros;
 use sis_disk::Disk;

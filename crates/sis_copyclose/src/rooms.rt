@@ -1,10 +1,9 @@
 //! Room for the blocks of an operation.
 ghost use Rattle.std.specs.Prelude.{◌≡◌, ◌*◌, ◌≤◌, None, length, IfErr, IfSome, OnOk};
 ghost use Rattle.sis_disk.specs.Record.{live_of};
-ghost use Rattle.sis_history.specs.Needs.{Need};
+ghost use Rattle.sis_history.specs.Needs.{IsUnhindered, Need};
 ghost use Rattle.sis_table.specs.Volume.{IsTable};
 ghost use Rattle.sis_volume.specs.View.{spare};
-ghost use Rattle.sis_copyclose.specs.Hindering.{IsUnhindered};
 ghost use Rattle.sis_copyclose.specs.Inside.{AsksBlocks, GivesUp, NoTable, Readies, blocks_alone};
 
 use sis_disk::Disk;

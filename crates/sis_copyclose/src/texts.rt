@@ -1,5 +1,6 @@
 //! The bytes of the blocks that a change of a file writes: new ones, and old ones around them.
 ghost use Rattle.std.specs.Prelude.{◌≡◌, ◌+◌, ◌-◌, ◌*◌, ◌/◌, ◌%◌, ◌<◌, ◌≤◌, ◌^◌, true, None, drop, length, IfErr, IfOk, IfSome, OnOk, ◌++◌};
+ghost use Rattle.sis_history.specs.Needs.{reads_in};
 ghost use Rattle.sis_disk.specs.Record.{live_of};
 ghost use Rattle.sis_model.specs.World.{resized};
 ghost use Rattle.sis_table.specs.Content.{content_of};
@@ -8,7 +9,7 @@ ghost use Rattle.sis_table.specs.Kinds.{plain_node};
 ghost use Rattle.sis_table.specs.Volume.{blocks_of, greatest_size, node_with};
 ghost use Rattle.sis_copyclose.specs.Calls.{reads_around};
 ghost use Rattle.sis_copyclose.specs.Inside.{AddsOld, AreTexts, Works, before_text, behind_text};
-ghost use Rattle.sis_copyclose.specs.Reading.{HindersReading, reads_in};
+ghost use Rattle.sis_copyclose.specs.Reading.{HindersReading};
 
 use crate::plan::Plan;
 use crate::zeros::add_zeros;

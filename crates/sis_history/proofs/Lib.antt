@@ -1,4 +1,17 @@
+pub mod AlikeLemmas
+pub mod AnswerLemmas
+pub mod AppearLemmas
+pub mod CallLemmas
+pub mod ClientLemmas
+pub mod CaseLemmas
 pub mod CountLemmas
 pub mod CutLemmas
+pub mod DownLemmas
+pub mod ExactLemmas
+pub mod FaultLemmas
 pub mod LoopLemmas
+pub mod NamedLemmas
+pub mod RowStopLemmas
+pub mod RunLemmas
+pub mod ShownLemmas
 pub mod StopLemmas

@@ -1,5 +1,5 @@
 use Rattle.std.proofs.Common.{sym, ◌∙◌}
-use Rattle.sis_copyclose.specs.Reading.{reads_between}
+use Rattle.sis_history.specs.Needs.{reads_between}
 use Rattle.sis_copyclose.proofs.ReadParts.{stops_read}
 use Rattle.sis_copyclose.proofs.reading.read.Goals as goal
 
