@@ -1,0 +1,17 @@
+pub mod Changed
+pub mod Committed
+pub mod Copied
+pub mod ExecLemmas
+pub mod JobLemmas
+pub mod LineLemmas
+pub mod Made
+pub mod Named
+pub mod Opened
+pub mod Openings
+pub mod OpensLemmas
+pub mod Operated
+pub mod Rows
+pub mod Sounding
+pub mod Surviving
+pub mod Told
+pub mod TurnLemmas

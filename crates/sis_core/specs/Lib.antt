@@ -1,0 +1,10 @@
+pub mod Deciding
+pub mod Jobs
+pub mod Opening
+pub mod Opens
+pub mod Rest
+pub mod Session
+pub mod Sound
+pub mod Steps
+pub mod Turns
+pub mod View
