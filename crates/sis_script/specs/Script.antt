@@ -142,11 +142,21 @@ IsClient client = (1 ≤ client) × (client ≤ LAST_CLIENT)
 -- a command whose verb is carried out, so that a script may have it
 abbrev pub IsBuilt : Command → Type 0
 IsBuilt (command.Put name bytes) = ⊤
+IsBuilt (command.Open name write) = ⊤
+IsBuilt (command.Read number at len) = ⊤
+IsBuilt (command.Write number at bytes) = ⊤
+IsBuilt (command.Size number len) = ⊤
+IsBuilt (command.Close number) = ⊤
+IsBuilt (command.Remove name) = ⊤
+IsBuilt (command.Rename old new) = ⊤
 IsBuilt (command.Stat name) = ⊤
 IsBuilt (command.List after) = ⊤
+IsBuilt (command.Tell name) = ⊥
 IsBuilt command.Space = ⊤
+IsBuilt (command.Fsctl code bytes) = ⊥
 IsBuilt command.Sync = ⊤
-IsBuilt _ = ⊥
+IsBuilt command.Grovel = ⊥
+IsBuilt command.End = ⊥
 
 -- what each script keeps: its clients, its commands and its turns are ones that a script may have
 pub record AreAllowed (parts : Parts) : Type 0 where

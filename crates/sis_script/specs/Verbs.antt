@@ -29,14 +29,23 @@ verb_of word =
     else if is_word word (codes "grovel") then Some verb.Grovel
     else None
 
--- Commands of these verbs are carried out. The other verbs come later, and are refused till then.
+-- Which verbs' commands are carried out. The others come later, and are refused till then.
 abbrev pub is_built : Verb → Bool
 is_built verb.Put = true
+is_built verb.Open = true
+is_built verb.Read = true
+is_built verb.Write = true
+is_built verb.Size = true
+is_built verb.Close = true
+is_built verb.Remove = true
+is_built verb.Rename = true
 is_built verb.Stat = true
 is_built verb.List = true
+is_built verb.Tell = false
 is_built verb.Space = true
+is_built verb.Fsctl = false
 is_built verb.Sync = true
-is_built _ = false
+is_built verb.Grovel = false
 
 -- the verb, where it is one that is carried out
 abbrev pub built_in : Option Verb → Result Verb LineKind

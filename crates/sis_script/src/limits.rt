@@ -7,4 +7,4 @@ pub const MOST_SCRIPT_BYTES: usize = 16_777_216;
 pub const MOST_LINES: u64 = 4096;
 
 /// The greatest client. The least one is 1.
-pub const LAST_CLIENT: u64 = 1;
+pub const LAST_CLIENT: u64 = 16;

@@ -12,7 +12,7 @@ fn read(alloc: Global, text: &[u8]) -> Result<Result<Script, ScriptFault>, Alloc
     Ok(read_script(alloc, &mut source))
 }
 
-const SCRIPT: &[u8] = b"# all verbs there are\r
+const SCRIPT: &[u8] = b"# verbs that need no open\r
 1 put \"a\" 61fF00\r
 
 @ 1 1
@@ -43,21 +43,72 @@ fn a_script_has_its_lines_and_turns(rt: HostRuntime) -> Result<(), Fail> {
     Ok(())
 }
 
+const OPENS: &[u8] = b"16 open \"a\" w
+2 open \"a\" r
+16 write 1 0 -
+2 read 1 0 3
+16 size 1 18446744073709551615
+16 close 1
+1 rename \"a\" \"b\"
+1 remove \"b\"
+@ 2 16";
+
+#[test]
+fn several_clients_open_files(rt: HostRuntime) -> Result<(), Fail> {
+    let alloc = rt.alloc();
+    let script = read(alloc, OPENS)??;
+    assert_eq!(rt; script.schedule.as_slice(), [2, 16].as_slice());
+    let [write, read, bytes, range, size, close, rename, remove] = script.lines.as_slice() else {
+        return Err(Fail::new("not eight lines"));
+    };
+    assert_eq!(rt; (write.client, read.client), (16, 2));
+    assert!(rt; matches!(write.command, Command::Open { write: true, .. }));
+    assert!(rt; matches!(read.command, Command::Open { write: false, .. }));
+    assert!(rt;
+        matches!(
+            bytes.command,
+            Command::Write {
+                number: 1,
+                at: 0,
+                ..
+            }
+        )
+    );
+    assert!(rt;
+        matches!(
+            range.command,
+            Command::Read {
+                number: 1,
+                at: 0,
+                len: 3
+            }
+        )
+    );
+    assert!(rt;
+        matches!(
+            size.command,
+            Command::Size {
+                number: 1,
+                len: u64::MAX
+            }
+        )
+    );
+    assert!(rt; matches!(close.command, Command::Close { number: 1 }));
+    assert!(rt; matches!(rename.command, Command::Rename { .. }));
+    assert!(rt; matches!(remove.command, Command::Remove { .. }));
+    Ok(())
+}
+
 /// Lines, each with its first wrong field.
-const LINES: [(&[u8], LineKind); 6] = [
+const LINES: [(&[u8], LineKind); 8] = [
     (b"1 put \"a\" \xff", LineKind::Encoding),
-    (b"2 space", LineKind::Client),
-    (b"1 open a x", LineKind::Verb),
+    (b"17 space", LineKind::Client),
+    (b"1 tell a", LineKind::Verb),
     (b"1 put \"\"61", LineKind::Name),
     (b"1 put \"a\" 616", LineKind::Hex),
     (b"1 put \"a\"61", LineKind::Fields),
-];
-
-/// What follows verbs that no line may have yet, each with its first wrong field.
-const LATER: [(Verb, &[u8], LineKind); 3] = [
-    (Verb::Read, b" 1 18446744073709551616 x", LineKind::Number),
-    (Verb::Open, b" \"a\" rw", LineKind::Mode),
-    (Verb::Fsctl, b" 0x090100 -", LineKind::Code),
+    (b"16 read 1 18446744073709551616 x", LineKind::Number),
+    (b"1 open \"a\" rw", LineKind::Mode),
 ];
 
 #[test]
@@ -67,20 +118,9 @@ fn the_first_wrong_field_is_named(rt: HostRuntime) -> Result<(), Fail> {
         let fault = read(alloc, text)?.err();
         assert_eq!(rt; fault, Some(ScriptFault::Line { line: 1, kind }), "{kind}");
     }
-    for (verb, text, kind) in LATER {
-        let fault = fields(alloc, verb, text).err();
-        assert_eq!(rt; fault, Some(LineFault::Wrong(kind)), "{kind}");
-    }
-    let most = fields(alloc, Verb::Size, b" 1 18446744073709551615");
-    assert!(rt;
-        matches!(
-            most,
-            Ok(Command::Size {
-                number: 1,
-                len: u64::MAX
-            })
-        )
-    );
+    // No line may have this verb yet.
+    let fault = fields(alloc, Verb::Fsctl, b" 0x090100 -").err();
+    assert_eq!(rt; fault, Some(LineFault::Wrong(LineKind::Code)));
     let control = fields(alloc, Verb::Fsctl, b" 80090aBc -");
     assert!(rt;
         matches!(

@@ -90,14 +90,11 @@ impl Verb {
         }
     }
 
-    // These verbs are carried out. The others come later, and are refused till then.
+    // All but these verbs are carried out. They come later, and are refused till then.
     fn is_built(self) -> bool
         ensures { result ≡ is_built self }
     {
-        matches!(
-            self,
-            Verb::Put | Verb::Stat | Verb::List | Verb::Space | Verb::Sync
-        )
+        !matches!(self, Verb::Tell | Verb::Fsctl | Verb::Grovel)
     }
 }
 
