@@ -7,7 +7,7 @@ use Rattle.sis_name.specs.Units.{name_cmp}
 use Rattle.sis_disk.specs.Record.{Seen, DiskRecord, IsCounted, Rose, live_of, live_bytes}
 use Rattle.sis_disk.specs.Streams.{Appended, AppendedFront}
 use Rattle.sis_disk.proofs.Appends.{AppendedFront-none}
-use Rattle.sis_model.specs.World.{unopened}
+use Rattle.sis_model.specs.World.{World, unopened}
 use Rattle.sis_model.specs.declared.history.Entry.{Entry}
 use Rattle.sis_table.specs.Volume.{VolumeTable, empty_table}
 use Rattle.sis_table.specs.Content.{files_of}
@@ -19,23 +19,25 @@ use Rattle.sis_script.specs.Taken.{TakesAtMost}
 use Rattle.sis_script.specs.declared.faults.ScriptFault.{ScriptFault}
 use Rattle.sis_script.specs.declared.faults.ScriptFault.TheVariants as script
 use Rattle.sis_script.specs.declared.limits.TheConstants.{MOST_SCRIPT_BYTES}
+use Rattle.sis_history.specs.Runs.{first_stage}
+use Rattle.sis_history.specs.Shown.{ShowsFiles}
 use Rattle.sis_history.specs.Stops.{SurvivesStops}
+use Rattle.sis_history.proofs.RunLemmas.{run_begun}
 use Rattle.sis_journal.specs.Opening.{Caused, IsSynced, SyncThenReads}
 use Rattle.sis_journal.specs.declared.fault.OpenFault.{OpenFault}
 use Rattle.sis_journal.specs.declared.fault.OpenFault.TheVariants as opening
 use Rattle.sis_journal.proofs.Behind.{synced_at}
 use Rattle.sis_volume.specs.Opening as opening_words
 use Rattle.sis_cli.specs.Exit.{risen, exit_of}
-use Rattle.sis_cli.specs.Session.{ShowsWorld}
-use Rattle.sis_cli.specs.Stages.{Stage}
-use Rattle.sis_cli.specs.Run.{TellsDown, IsGoodImage, IsOnlyOpened, Counts, ExecCause, HasCalls, HasOpened, SparesExec, least_layout, table_in, table_or, world_in, untold, Starts, IsHistory, Serves, WritesAll, IfUp}
+use Rattle.sis_core.specs.Opening.{Starts, least_layout, table_in, table_or, world_in}
+use Rattle.sis_cli.specs.Run.{TellsDown, IsGoodImage, IsOnlyOpened, Counts, ExecCause, CallsOfScript, HasOpened, SparesExec, IsHistory, Serves, WritesAll, IfUp}
+use Rattle.sis_cli.specs.declared.usage.Verb.{Verb}
 use Rattle.sis_cli.specs.declared.ending.Ending.{Ending}
 use Rattle.sis_cli.specs.declared.ending.Ending.TheVariants as ending
 use Rattle.sis_cli.specs.declared.exit.Exit.{Exit}
 use Rattle.sis_cli.specs.declared.exit.Exit.TheVariants as exit
 use Rattle.sis_cli.proofs.ServeLemmas.{is_script}
 use Rattle.sis_cli.proofs.Surviving.{survives_same, survives_synced}
-use Rattle.sis_cli.proofs.Worlds.{shows_files}
 
 -- ---- which exits these are
 
@@ -68,18 +70,18 @@ early_image exit.Sink P early = absurd early
 early_image exit.Source P early = tt
 early_image exit.Memory P early = λ some. absurd (some refl)
 
-pub early_calls : (status : Exit) (left : Option (List ℕ)) → IsEarly status
-    → HasCalls status left []
-early_calls exit.Done left early = absurd early
-early_calls (exit.Usage at kind) left early = refl
-early_calls (exit.Script line kind) left early = refl
-early_calls (exit.ScriptLimit kind count) left early = refl
-early_calls (exit.Image at kind) left early = refl
-early_calls (exit.Bad kind file index) left early = refl
-early_calls (exit.Disk count) left early = inr refl
-early_calls exit.Sink left early = absurd early
-early_calls exit.Source left early = refl
-early_calls exit.Memory left early = inr refl
+pub early_calls : (asked : Verb) (status : Exit) (left : Option (List ℕ)) → IsEarly status
+    → CallsOfScript asked status left []
+early_calls asked exit.Done left early = absurd early
+early_calls asked (exit.Usage at kind) left early = refl
+early_calls asked (exit.Script line kind) left early = refl
+early_calls asked (exit.ScriptLimit kind count) left early = refl
+early_calls asked (exit.Image at kind) left early = refl
+early_calls asked (exit.Bad kind file index) left early = refl
+early_calls asked (exit.Disk count) left early = inr refl
+early_calls asked exit.Sink left early = absurd early
+early_calls asked exit.Source left early = refl
+early_calls asked exit.Memory left early = inr refl
 
 pub early_down : (status : Exit) → IsEarly status → TellsDown status []
 early_down exit.Done early = absurd early
@@ -95,12 +97,13 @@ early_down exit.Memory early = tt
 
 -- ---- its history
 
--- the table without files shows a world without files
-none_shown : ShowsWorld (unopened least_layout.letter (files_of (empty_table least_layout) []))
-    (untold (empty_table least_layout))
+-- the world without files, which the table without files shows
+abbrev no_world : World
+no_world = unopened least_layout.letter (files_of (empty_table least_layout) [])
+
+none_shown : ShowsFiles no_world (empty_table least_layout)
 none_shown =
-    shows_files (untold (empty_table least_layout)) []
-    (λ q. ap (option_map length) (get-empty name_cmp q)) tt
+    record { letter = refl; sizes = λ q. ap (option_map length) (get-empty name_cmp q) }
 
 -- an image that is opened opens as the files of its world
 opens_in : (m : List ℕ) → IsGoodImage (Some m) → OpensAs (world_in m).files m
@@ -155,42 +158,41 @@ pub history_none : (old new : Seen) (status : Exit) (entries : List Entry) → e
 history_none old new status entries none early counted spared =
     subst (λ (es : List Entry). IsHistory old new status es) (sym none) (by old.told refl)
   where
-    stage : VolumeTable → Stage
-    stage v = record { table = v; faults = old.faults; calls = old.calls; down = None }
+    of : (w : World) (v : VolumeTable) → Starts (live_of old) w v
+        → ((before now : DiskRecord) → old.told ≡ Some before → new.told ≡ Some now
+        → HasOpened status old now [] → SurvivesStops (old.calls + 1) w [] now)
+        → IsHistory old new status []
+    of w v starts stops = record {
+      world = w;
+      table = v;
+      opened = new;
+      last = first_stage w v new;
+      starts = starts;
+      first = λ some. absurd (some refl);
+      run = run_begun w v new;
+      seen = refl;
+      idle = λ client. refl;
+      after = refl;
+      ends = λ some. absurd (some refl);
+      legal = λ r told. tt;
+      appears = tt;
+      order = tt;
+      image = early_image status _ early;
+      stops = stops;
+    }
 
     by : (o : Option DiskRecord) → old.told ≡ o → IsHistory old new status []
-    by None is = record {
-      world = unopened least_layout.letter (files_of (empty_table least_layout) []);
-      opened = stage (empty_table least_layout);
-      last = stage (empty_table least_layout);
-      starts =
-          subst (λ (o : Option DiskRecord). Starts (option_map live_bytes o)
-          (unopened least_layout.letter (files_of (empty_table least_layout) []))
-          (empty_table least_layout)) (sym is) none_shown;
-      first = λ some. absurd (some refl);
-      legal = tt;
-      order = tt;
-      kept = refl;
-      ends = λ some. absurd (some refl);
-      image = early_image status _ early;
-      stops = λ before now was is_now opened. absurd (let e = sym is ∙ was in cc);
-    }
-    by (Some r) is = record {
-      world = world_in (live_bytes r);
-      opened = stage (table_in (live_bytes r));
-      last = stage (table_in (live_bytes r));
-      starts =
-          subst (λ (o : Option DiskRecord). Starts (option_map live_bytes o)
-          (world_in (live_bytes r)) (table_in (live_bytes r))) (sym is) (refl, refl);
-      first = λ some. absurd (some refl);
-      legal = tt;
-      order = tt;
-      kept = refl;
-      ends = λ some. absurd (some refl);
-      image = early_image status _ early;
-      stops = λ before now was is_now opened.
-          early_stops old new r now counted is is_now status early spared opened;
-    }
+    by None is =
+        of no_world (empty_table least_layout)
+        (subst (λ (o : Option DiskRecord). Starts (option_map live_bytes o) no_world
+        (empty_table least_layout)) (sym is) (none_shown, refl))
+        (λ before now was is_now opened. absurd (let e = sym is ∙ was in cc))
+    by (Some r) is =
+        of (world_in (live_bytes r)) (table_in (live_bytes r))
+        (subst (λ (o : Option DiskRecord). Starts (option_map live_bytes o)
+        (world_in (live_bytes r)) (table_in (live_bytes r))) (sym is) (refl, refl))
+        (λ before now was is_now opened.
+        early_stops old new r now counted is is_now status early spared opened)
 
 -- ---- its parts
 
@@ -221,15 +223,16 @@ pub nothing_written : (status : Exit) (out : Option (List ℕ)) (entries : List 
 nothing_written status out entries none = any_writes status _ (nothing_printed out entries none)
 
 -- a run that ended before its first line
-serves_none : (left left_now : Option (List ℕ)) (old new : Seen) (n : Counts)
+serves_none : (asked : Verb) (left left_now : Option (List ℕ)) (old new : Seen) (n : Counts)
     (out : Option (List ℕ)) (status : Exit) (entries : List Entry) → entries ≡ []
     → IsEarly status → IsCounted old → SparesExec status old new []
     → TakesAtMost (MOST_SCRIPT_BYTES + 1) left left_now → ExecCause left (live_of old) n status
-    → Serves left left_now old new n out out status entries
-serves_none left left_now old new n out status entries none early counted spared taken cause =
+    → Serves asked left left_now old new n out out status entries
+serves_none asked left left_now old new n out status entries none early counted spared taken cause =
     record {
       history = history_none old new status entries none early counted spared;
-      calls = subst (HasCalls status left) (sym none) (early_calls status left early);
+      calls =
+          subst (CallsOfScript asked status left) (sym none) (early_calls asked status left early);
       spared = subst (SparesExec status old new) (sym none) spared;
       input = record { most = taken; all = λ done. absurd (early_not_done status early done) };
       down = subst (TellsDown status) (sym none) (early_down status early);
@@ -241,34 +244,34 @@ serves_none left left_now old new n out status entries none early counted spared
     }
 
 -- a script that was not read
-pub serves_no_script : (left left_now : Option (List ℕ)) (old new : Seen) (n : Counts)
+pub serves_no_script : (asked : Verb) (left left_now : Option (List ℕ)) (old new : Seen) (n : Counts)
     (out : Option (List ℕ)) (count : ℕ) (fault : ScriptFault) (ended : Ending)
     (entries : List Entry) → entries ≡ [] → ended ≡ ending.Script fault → new ≡ old
     → IfSome left (λ bytes. FailsAs fault (script_of bytes))
     → (fault ≡ script.Source → Rose n.source n.source_now)
     → TakesAtMost (MOST_SCRIPT_BYTES + 1) left left_now → IsCounted old
-    → Serves left left_now old new n out out (exit_of count ended) entries
-serves_no_script left left_now old new n out count fault ended entries none is same says rose taken
+    → Serves asked left left_now old new n out out (exit_of count ended) entries
+serves_no_script asked left left_now old new n out count fault ended entries none is same says rose taken
     counted =
-    subst (λ (e : Ending). Serves left left_now old new n out out (exit_of count e) entries)
+    subst (λ (e : Ending). Serves asked left left_now old new n out out (exit_of count e) entries)
     (sym is) (by fault says rose)
   where
     serves : (status : Exit) → IsEarly status → SparesExec status old new []
         → ExecCause left (live_of old) n status
-        → Serves left left_now old new n out out status entries
+        → Serves asked left left_now old new n out out status entries
     serves status early spared cause =
-        serves_none left left_now old new n out status entries none early counted spared taken cause
+        serves_none asked left left_now old new n out status entries none early counted spared taken cause
 
     by : (f : ScriptFault) → IfSome left (λ bytes. FailsAs f (script_of bytes))
         → (f ≡ script.Source → Rose n.source n.source_now)
-        → Serves left left_now old new n out out (exit_of count (ending.Script f)) entries
+        → Serves asked left left_now old new n out out (exit_of count (ending.Script f)) entries
     by script.Source says rose = serves exit.Source tt same (rose refl)
     by (script.Line line kind) says rose = serves (exit.Script line kind) tt same says
     by (script.Limit kind most) says rose = serves (exit.ScriptLimit kind most) tt same says
     by script.Memory says rose = serves exit.Memory tt (λ e. inl same) tt
 
 -- an image that was not opened
-pub serves_no_image : (left left_now : Option (List ℕ)) (old new : Seen) (n : Counts)
+pub serves_no_image : (asked : Verb) (left left_now : Option (List ℕ)) (old new : Seen) (n : Counts)
     (out : Option (List ℕ)) (parts : Parts) (fault : OpenFault) (ended : Ending)
     (entries : List Entry) → entries ≡ [] → ended ≡ ending.Image fault
     → IfSome left (λ bytes. script_of bytes ≡ Ok parts)
@@ -276,25 +279,25 @@ pub serves_no_image : (left left_now : Option (List ℕ)) (old new : Seen) (n : 
     → IfSome (live_of old) (λ m. opening_words.FailsAs fault (image_at m))
     → Caused fault n.disk n.disk_now → SyncThenReads 4 old new
     → ((fault ≡ opening.Disk → ⊥) → IsSynced old new) → IsCounted old
-    → Serves left left_now old new n out out (exit_of (risen n.disk n.disk_now) ended) entries
-serves_no_image left left_now old new n out parts fault ended entries none is says taken fails rose
+    → Serves asked left left_now old new n out out (exit_of (risen n.disk n.disk_now) ended) entries
+serves_no_image asked left left_now old new n out parts fault ended entries none is says taken fails rose
     reads synced counted =
     subst (λ (e : Ending).
-    Serves left left_now old new n out out (exit_of (risen n.disk n.disk_now) e) entries) (sym is)
+    Serves asked left left_now old new n out out (exit_of (risen n.disk n.disk_now) e) entries) (sym is)
     (by fault fails rose synced)
   where
     serves : (status : Exit) → IsEarly status → SparesExec status old new []
         → ExecCause left (live_of old) n status
-        → Serves left left_now old new n out out status entries
+        → Serves asked left left_now old new n out out status entries
     serves status early spared cause =
-        serves_none left left_now old new n out status entries none early counted spared taken cause
+        serves_none asked left left_now old new n out status entries none early counted spared taken cause
 
     only : IsSynced old new → IsOnlyOpened old new
     only first = record { reads = reads; synced = first }
 
     by : (f : OpenFault) → IfSome (live_of old) (λ m. opening_words.FailsAs f (image_at m))
         → Caused f n.disk n.disk_now → ((f ≡ opening.Disk → ⊥) → IsSynced old new)
-        → Serves left left_now old new n out out
+        → Serves asked left left_now old new n out out
         (exit_of (risen n.disk n.disk_now) (ending.Image f)) entries
     by opening.Disk fails rose synced =
         serves (exit.Disk (risen n.disk n.disk_now)) tt (λ e. reads)

@@ -1,13 +1,10 @@
-pub mod Decided
+pub mod Cores
 pub mod Defects
 pub mod Early
-pub mod InOrder
-pub mod Lists
-pub mod PutLemmas
+pub mod Hands
+pub mod Lines
 pub mod RanLines
 pub mod Reopening
-pub mod Runs
 pub mod ServeLemmas
 pub mod Surviving
 pub mod WordLemmas
-pub mod Worlds

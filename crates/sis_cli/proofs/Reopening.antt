@@ -13,7 +13,8 @@ use Rattle.sis_table.specs.Image.{image_at}
 use Rattle.sis_table.specs.Opens.{OpensAs}
 use Rattle.sis_table.specs.Volume.{VolumeTable}
 use Rattle.sis_volume.specs.Opening.{FailsAs}
-use Rattle.sis_cli.specs.Run.{IsGoodImage, table_or, world_in}
+use Rattle.sis_core.specs.Opening.{table_or, world_in}
+use Rattle.sis_cli.specs.Run.{IsGoodImage}
 use Rattle.sis_cli.specs.Stops.{BeginsWith}
 use Rattle.sis_cli.proofs.Defects.{read_sound}
 

@@ -1,6 +1,4 @@
 pub mod Exit
 pub mod Run
-pub mod Session
-pub mod Stages
 pub mod Stops
 pub mod Words

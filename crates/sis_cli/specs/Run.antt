@@ -5,31 +5,35 @@ use Rattle.sis_disk.specs.Record.{DiskRecord, Seen, Rose, laid, live_of}
 use Rattle.sis_disk.specs.declared.layout.Layout.{Layout}
 use Rattle.sis_disk.specs.declared.layout.ImageKind.TheVariants as image
 use Rattle.sis_disk.specs.Streams.{Appended, AppendedFront}
-use Rattle.sis_model.specs.World.{World, unopened}
+use Rattle.sis_model.specs.World.{World}
 use Rattle.sis_model.specs.History.{IsLegal, world_after}
-use Rattle.sis_model.specs.Order.{line_of, exec_order, calls_of, expected_calls}
+use Rattle.sis_model.specs.Order.{IsTurnOrder, TakeOneTurn, calls_of, exec_order, expected_calls, line_of, without_ends}
 use Rattle.sis_model.specs.declared.history.Entry.{Entry}
 use Rattle.sis_model.specs.declared.history.Line.{Line}
 use Rattle.sis_script.specs.Printed.{printed}
 use Rattle.sis_script.specs.Script.{Parts, script_of, IsClient, IsBuilt}
 use Rattle.sis_script.specs.declared.faults.ScriptFault.TheVariants as script
 use Rattle.sis_table.specs.Volume.{VolumeTable, empty_table, IsTable}
-use Rattle.sis_table.specs.Content.{StandsFor, files_of}
+use Rattle.sis_table.specs.Content.{StandsFor}
 use Rattle.sis_table.specs.Spelling.{spelling}
 use Rattle.sis_table.specs.Good.{IsGood, first_defect}
 use Rattle.sis_table.specs.Image.{Holds, image_at}
-use Rattle.sis_disk.specs.Superblock.{ImageFault}
-use Rattle.sis_volume.specs.View.{VolumeView}
 use Rattle.sis_script.specs.Taken.{TakesAtMost}
 use Rattle.sis_script.specs.declared.limits.TheConstants.{MOST_SCRIPT_BYTES}
-use Rattle.sis_history.specs.Stops.{AreInOrder, Survives, SurvivesStops}
+use Rattle.sis_history.specs.Appearing.{AppearsLegal}
+use Rattle.sis_history.specs.Entering.{any_down}
+use Rattle.sis_history.specs.Runs.{HasRun}
+use Rattle.sis_history.specs.Stage.{Stage}
+use Rattle.sis_history.specs.Stops.{AreInOrder, SurvivesStops}
 use Rattle.sis_journal.specs.Opening.{IsSynced, SyncThenReads}
 use Rattle.sis_journal.specs.Formatting.{EndsInSync, new_blocks}
+use Rattle.sis_core.specs.Jobs.{AreIdle}
+use Rattle.sis_core.specs.Opening.{Starts}
+use Rattle.sis_core.specs.Sound.{IsSound}
+use Rattle.sis_core.specs.View.{CoreView, opening_of}
 use Rattle.sis_cli.specs.Words.{Words, Fault}
 use Rattle.sis_cli.specs.Exit.{risen, length_at}
-use Rattle.sis_cli.specs.Session.{ShowsWorld, stage_of}
-use Rattle.sis_cli.specs.Stages.{IsRun, any_down, Stage}
-use Rattle.sis_cli.specs.Stops.{IsSurvived, SyncsAt}
+use Rattle.sis_cli.specs.Stops.{SyncsAt}
 use Rattle.sis_cli.specs.declared.usage.Verb.{Verb}
 use Rattle.sis_cli.specs.declared.usage.Verb.TheVariants as verb
 use Rattle.sis_cli.specs.declared.exit.Exit.{Exit}
@@ -37,9 +41,10 @@ use Rattle.sis_cli.specs.declared.exit.Exit.TheVariants as exit
 
 -- ---- verbs
 
--- P holds of the verb `exec`, and Q of `format`
+-- P holds of the verbs that run a script, and Q of `format`
 abbrev pub IsExec : Verb → Type 0 → Type 0 → Type 0
 IsExec verb.Exec P Q = P
+IsExec verb.Replay P Q = P
 IsExec verb.Format P Q = Q
 
 -- P holds where the words ask for a script to be run, and else Q
@@ -140,32 +145,51 @@ IsAccepted (Ok words) left live size n =
 
 -- ---- what a script does
 
--- The entries are those of a script: its lines in order, each client's end right after its last
--- line, and so each client's calls, each once. The script is what some bytes say, and these are the
--- source's, where it tells them.
-pub record RunsScript (left : Option (List ℕ)) (entries : List Entry) : Type 0 where
+-- In which order a verb runs the lines of a script: `exec` in the script's, each client's end right
+-- behind its last line; `replay` by turns, where each line takes one turn.
+abbrev pub RunsInOrder : Verb → Parts → List Line → Type 0
+RunsInOrder verb.Exec parts ran = ran ≡ exec_order parts.lines
+RunsInOrder verb.Replay parts ran =
+    TakeOneTurn parts.lines → IsTurnOrder parts.lines parts.schedule (without_ends ran)
+RunsInOrder verb.Format parts ran = ran ≡ []
+
+-- The entries are those of the script's lines and of its clients' ends: each client's calls, each
+-- once, in the order that the verb has.
+pub record RunsLines (asked : Verb) (parts : Parts) (entries : List Entry) : Type 0 where
+  pub order : RunsInOrder asked parts (map line_of entries)
+  pub calls : (client : ℕ) → calls_of entries client ≡ expected_calls parts.lines client
+
+-- The entries are those of a script. It is what some bytes say, and these are the source's, where it
+-- tells them.
+pub record RunsScript (asked : Verb) (left : Option (List ℕ)) (entries : List Entry)
+    : Type 0 where
   pub bytes : List ℕ
   pub told : IfSome left (λ told. bytes ≡ told)
   pub parts : Parts
   pub is_script : script_of bytes ≡ Ok parts
   pub clients : All (λ l. IsClient l.client) parts.lines
   pub built : All (λ l. IsBuilt l.command) parts.lines
-  pub order : map line_of entries ≡ exec_order parts.lines
-  pub calls : (client : ℕ) → calls_of entries client ≡ expected_calls parts.lines client
+  pub runs : RunsLines asked parts entries
 
--- Which entries a run has that ended so: the script's calls, or none where it ended before the
--- first of them.
-abbrev pub HasCalls : Exit → Option (List ℕ) → List Entry → Type 0
-HasCalls exit.Done left entries = RunsScript left entries
-HasCalls (exit.Usage at kind) left entries = entries ≡ []
-HasCalls (exit.Script line kind) left entries = entries ≡ []
-HasCalls (exit.ScriptLimit kind count) left entries = entries ≡ []
-HasCalls (exit.Image at kind) left entries = entries ≡ []
-HasCalls (exit.Bad kind file index) left entries = entries ≡ []
-HasCalls (exit.Disk count) left entries = RunsScript left entries ⊎ (entries ≡ [])
-HasCalls exit.Sink left entries = RunsScript left entries
-HasCalls exit.Source left entries = entries ≡ []
-HasCalls exit.Memory left entries = RunsScript left entries ⊎ (entries ≡ [])
+-- Which entries a run of a script has that ended so: the script's calls, or none where it ended
+-- before the first of them.
+abbrev pub CallsOfScript : Verb → Exit → Option (List ℕ) → List Entry → Type 0
+CallsOfScript v exit.Done left entries = RunsScript v left entries
+CallsOfScript v (exit.Usage at kind) left entries = entries ≡ []
+CallsOfScript v (exit.Script line kind) left entries = entries ≡ []
+CallsOfScript v (exit.ScriptLimit kind count) left entries = entries ≡ []
+CallsOfScript v (exit.Image at kind) left entries = entries ≡ []
+CallsOfScript v (exit.Bad kind file index) left entries = entries ≡ []
+CallsOfScript v (exit.Disk count) left entries = RunsScript v left entries ⊎ (entries ≡ [])
+CallsOfScript v exit.Sink left entries = RunsScript v left entries
+CallsOfScript v exit.Source left entries = entries ≡ []
+CallsOfScript v exit.Memory left entries = RunsScript v left entries ⊎ (entries ≡ [])
+
+-- Which entries a run has that ended so. Words that ask for no script have none.
+abbrev pub HasCalls : Result Words Fault → Exit → Option (List ℕ) → List Entry → Type 0
+HasCalls (Err fault) status left entries = entries ≡ []
+HasCalls (Ok words) status left entries =
+    IsExec words.verb (CallsOfScript words.verb status left entries) (entries ≡ [])
 
 -- the disk was opened and not called any more: by a sync that succeeded, and at most four reads
 pub record IsOnlyOpened (old new : Seen) : Type 0 where
@@ -237,60 +261,20 @@ IfUp exit.Sink entries P = any_down entries ≡ false → P
 IfUp exit.Source entries P = ⊤
 IfUp exit.Memory entries P = entries ≢ [] → any_down entries ≡ false → P
 
--- the layout of the least image
-abbrev pub least_layout : Layout
-least_layout = record { total = 16; area = 1; log = 0; letter = 65 }
-
--- the table that is read, and the one without files where none is
-abbrev pub table_or : Result VolumeTable ImageFault → VolumeTable
-table_or (Ok v) = v
-table_or (Err fault) = empty_table least_layout
-
--- the table that an image holds, and the files for which both stand, none of them open
-abbrev pub table_in : List ℕ → VolumeTable
-table_in m = table_or (image_at m)
-
--- the world that has these files
-abbrev pub world_in : List ℕ → World
-world_in m = unopened (table_in m).layout.letter (files_of (table_in m) m)
-
--- a volume with this table, of which nothing else is told
-abbrev pub untold : VolumeTable → VolumeView
-untold v = record {
-  seen = record { size = 0; calls = 0; faults = 0; told = None };
-  table = v;
-  committed = [];
-  is_changed = false;
-  down = None;
-}
-
--- A run starts with the files for which the image stands. Where the disk doesn't tell its bytes,
--- these are some files with the names and the sizes that the opened table has.
-abbrev pub Starts : Option (List ℕ) → World → VolumeTable → Type 0
-Starts None w v = ShowsWorld w (untold v)
-Starts (Some m) w v = (w ≡ world_in m) × (v ≡ table_in m)
-
 -- The image holds this table, whose files go together, and it stands for these files.
 pub record HoldsFiles (m : List ℕ) (v : VolumeTable) (w : World) : Type 0 where
   pub holds : Holds m v
   pub good : IsGood v
   pub stands : StandsFor v m w.files
 
--- The table that was opened is one, of the disk's length, its files go together, and the disk was
--- called at most five times.
-pub record IsOpened (s : Stage) (old : Seen) : Type 0 where
-  pub table : IsTable s.table
-  pub good : IsGood s.table
-  pub length : old.size ≡ 4096 * s.table.layout.total
-  pub up : s.down ≡ None
-  pub faults : old.faults ≤ s.faults
-  pub calls : old.calls ≤ s.calls
-  pub few : s.calls ≤ old.calls + 5
-
--- the last stage has the counts of the returned disk
-pub record IsLast (s : Stage) (new : Seen) : Type 0 where
-  pub faults : s.faults ≡ new.faults
-  pub calls : s.calls ≡ new.calls
+-- The table that was opened is one, of the disk's length, and its files go together. The disk was
+-- synced and read then, which was all that it was called for, and it didn't fail.
+pub record IsOpened (v : VolumeTable) (old opened : Seen) : Type 0 where
+  pub table : IsTable v
+  pub good : IsGood v
+  pub length : old.size ≡ 4096 * v.layout.total
+  pub only : IsOnlyOpened old opened
+  pub quiet : opened.faults ≡ old.faults
 
 -- What is to be known of a run that ended so for each stop to be survived: nothing where the lines
 -- ran, and else that the image is one that opens. Where the disk failed without entries, it may
@@ -308,21 +292,28 @@ HasOpened exit.Sink old now entries = ⊤
 HasOpened exit.Source old now entries = IsGoodImage (live_of old)
 HasOpened exit.Memory old now entries = (entries ≢ []) ⊎ IsGoodImage (live_of old)
 
--- One legal history of separate files, which begins with those of the opening image, and leads from
--- the stage at opening to the last one. Where no commit failed, the last live bytes hold what came
--- of both. Stopped at any call behind opening's first, whether a commit failed or not, the disk is
--- left with an image that opens as the files after some of the entries: all that were sure by then
--- are among them.
+-- One history of separate files: a run of rows leads from the files and the table of the opening
+-- image, and from what was seen of the disk once it was opened, to the last stage, and has these
+-- entries. They are legal where the disk tells its calls, and else but for which bytes were read.
+-- In the end nobody has a command in hand, and the table is one again, whose files go together.
+-- Where no commit failed, the last live bytes hold what came of files and table. Stopped at any
+-- call behind opening's first, whether a commit failed or not, the disk is left with an image that
+-- opens as the files after some of the entries: all that were sure by then are among them.
 pub record IsHistory (old new : Seen) (status : Exit) (entries : List Entry) : Type 0 where
   pub world : World
-  pub opened : Stage
+  pub table : VolumeTable
+  pub opened : Seen
   pub last : Stage
-  pub starts : Starts (live_of old) world opened.table
-  pub first : entries ≢ [] → IsOpened opened old
-  pub legal : IsLegal world entries
+  pub starts : Starts (live_of old) world table
+  pub first : entries ≢ [] → IsOpened table old opened
+  pub run : HasRun world table opened entries last
+  pub seen : last.seen ≡ new
+  pub idle : (client : ℕ) → last.jobs client ≡ None
+  pub after : last.world ≡ world_after world entries
+  pub ends : entries ≢ [] → IsTable last.table × IsGood last.table
+  pub legal : (r : DiskRecord) → new.told ≡ Some r → IsLegal world entries
+  pub appears : AppearsLegal world entries
   pub order : AreInOrder entries
-  pub kept : IsRun opened entries last
-  pub ends : entries ≢ [] → IsLast last new
   pub image : IfUp status entries
       (IfSome (live_of new) (λ m. HoldsFiles m last.table (world_after world entries)))
   pub stops : (before now : DiskRecord) → old.told ≡ Some before → new.told ≡ Some now
@@ -376,31 +367,30 @@ CauseOfEnd n (exit.Image at kind) = ⊥
 CauseOfEnd n (exit.Bad kind file index) = ⊥
 CauseOfEnd n exit.Source = ⊥
 
--- what a run of some lines on an opened volume leaves
-pub record LeavesRun (v : VolumeView) (lines : List Line) (n : Counts)
+-- what a run of a script's lines on an opened core leaves
+pub record LeavesRun (asked : Verb) (o : CoreView) (parts : Parts) (n : Counts)
     (out out_now : Option (List ℕ)) (now : Seen) (status : Exit)
     (entries : List Entry) : Type 0 where
-  pub last : Stage
-  pub none : entries ≡ [] → now ≡ v.seen
-  pub order : (entries ≡ []) ⊎ (map line_of entries ≡ exec_order lines)
-  pub all : status ≢ exit.Memory → map line_of entries ≡ exec_order lines
-  pub kept : IsRun (stage_of v) entries last
-  pub ends : entries ≢ [] → IsLast last now
-  pub world : (w : World) → ShowsWorld w v → IsLegal w entries
-      × IfUp status entries
-      (IfSome (live_of now) (λ m. HoldsFiles m last.table (world_after w entries)))
-  pub stops : (first : ℕ) (w : World) → ShowsWorld w v → IsSurvived first w [] v
-      → Survives first w entries now
+  pub last : CoreView
+  pub sound : IsSound last
+  pub idle : AreIdle last.jobs
+  pub opening : opening_of last ≡ opening_of o
+  pub decided : last.entries ≡ entries
+  pub seen : last.volume.seen ≡ now
+  pub runs : (entries ≡ []) ⊎ RunsLines asked parts entries
+  pub all : status ≢ exit.Memory → RunsLines asked parts entries
+  pub holds : IfUp status entries
+      (IfSome (live_of now) (λ m. Holds m last.volume.table))
   pub written : WritesAll status (Appended out out_now (printed entries))
   pub front : AppendedFront out out_now (printed entries)
   pub down : TellsDown status entries
   pub cause : CauseOfEnd n status
 
 -- what a run of a script leaves
-pub record Serves (left left_now : Option (List ℕ)) (old new : Seen) (n : Counts)
+pub record Serves (asked : Verb) (left left_now : Option (List ℕ)) (old new : Seen) (n : Counts)
     (out out_now : Option (List ℕ)) (status : Exit) (entries : List Entry) : Type 0 where
   pub history : IsHistory old new status entries
-  pub calls : HasCalls status left entries
+  pub calls : CallsOfScript asked status left entries
   pub spared : SparesExec status old new entries
   pub input : TakesScript status left left_now
   pub down : TellsDown status entries

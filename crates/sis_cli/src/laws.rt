@@ -1,6 +1,7 @@
 //! What follows for an image that a stop leaves. The function does nothing: its clauses are what it
 //! is for.
 ghost use Rattle.std.specs.Prelude.{◌≡◌, ◌⊎◌, ℕ, List, [], Some, Ok, IfSome};
+ghost use Rattle.sis_core.specs.Opening.{world_in};
 ghost use Rattle.sis_disk.specs.Record.{Seen, live_of};
 ghost use Rattle.sis_journal.specs.declared.fault.OpenFault.{OpenFault as AnOpenFault};
 ghost use Rattle.sis_journal.specs.declared.fault.OpenFault.TheVariants as fault;
@@ -11,7 +12,7 @@ ghost use Rattle.sis_table.specs.Image.{image_at};
 ghost use Rattle.sis_table.specs.Opens.{OpensAs};
 ghost use Rattle.sis_table.specs.Volume.{VolumeTable};
 ghost use Rattle.sis_volume.specs.Opening.{FailsAs};
-ghost use Rattle.sis_cli.specs.Run.{IsGoodImage, world_in};
+ghost use Rattle.sis_cli.specs.Run.{IsGoodImage};
 ghost use Rattle.sis_cli.specs.Stops.{BeginsWith};
 
 /// A disk whose bytes are an image that opens as some files is opened as a table that has just

@@ -5,8 +5,6 @@ mod ending;
 mod exit;
 mod fault_line;
 mod laws;
-mod running;
-mod session;
 mod top;
 mod usage;
 mod words;

@@ -1,39 +1,74 @@
 //! The call that the program makes.
-ghost use Rattle.std.specs.Prelude.{◌≡◌, ◌⊎◌, ◌≤◌, ⊤, [], None, false, All, ℕ};
+ghost use Rattle.std.specs.Prelude.{◌≡◌, ◌≢◌, ◌⊎◌, ◌≤◌, ⊤, [], false, All, ℕ, OnErr, OnOk};
+ghost use Rattle.sis_core.specs.Jobs.{AreIdle};
+ghost use Rattle.sis_core.specs.Sound.{IsSound};
+ghost use Rattle.sis_core.specs.Steps.{IsSaved};
+ghost use Rattle.sis_core.specs.View.{opening_of};
 ghost use Rattle.sis_disk.specs.Layout.{IsLayout};
 ghost use Rattle.sis_disk.specs.Record.{live_of};
 ghost use Rattle.sis_disk.specs.Streams.{Appended, AppendedFront};
-ghost use Rattle.sis_table.specs.Volume.{IsTable};
 ghost use Rattle.sis_script.specs.Printed.{printed};
-ghost use Rattle.sis_script.specs.Script.{IsBuilt};
+ghost use Rattle.sis_script.specs.Script.{IsBuilt, IsClient};
+ghost use Rattle.sis_script.specs.Views.{parts_of};
 ghost use Rattle.sis_cli.specs.Exit.{exit_of, risen};
 ghost use Rattle.sis_cli.specs.Words.{texts, plan_of};
 ghost use Rattle.sis_cli.specs.Run.{IfExec, IfFormat, ExitCause, IsAccepted, HasCalls, IsHistory};
-ghost use Rattle.sis_cli.specs.Run.{Formats, IsFormatted, LaysNew, LeavesRun, Serves};
+ghost use Rattle.sis_cli.specs.Run.{Formats, IsFormatted, LaysNew, LeavesRun, RunsLines, Serves};
 ghost use Rattle.sis_cli.specs.Run.{TellsDown, WritesAll, Spares, TakesScript};
 
 use crate::ending::{Ended, Ending};
-use crate::running::run_lines;
-use crate::{Exit, Outcome, plan};
+use crate::{Exit, Outcome, Verb, plan};
+use sis_core::{Core, CoreParts};
 use sis_disk::{Disk, Guids, Layout, Sink, Source};
-use sis_model::{History, Line};
-use sis_script::{Script, print_history, read_script};
+use sis_model::History;
+use sis_script::{LAST_CLIENT, Script, print_history, read_script};
 use sis_volume::{Refused, Volume};
-use std::alloc::Global;
+use std::alloc::{AllocError, Global};
 
-// Runs the lines of a script on an opened volume, and prints what was answered.
-fn exec_lines<D: Disk, K: Sink>(
+// Makes room for the entries of a script's lines and of its clients' ends, and runs the lines.
+fn run_lines<D: Disk, G: Guids>(
+    core: &mut Core<D, G>,
+    verb: Verb,
+    script: Script,
+) -> Result<(), AllocError>
+    requires verb { verb ≢ Verb.Format }
+    requires fresh { core.old.entries ≡ [] }
+    requires idle { AreIdle core.old.jobs }
+    requires clients { All (λ l. IsClient l.client) script.lines.items }
+    requires built { All (λ l. IsBuilt l.command) script.lines.items }
+    ensures runs { OnOk result (RunsLines verb (parts_of script) core.new.entries) }
+    ensures saved { IsSaved core.old → IsSaved core.new }
+    ensures idle { AreIdle core.new.jobs }
+    ensures opening { opening_of core.new ≡ opening_of core.old }
+    ensures none { OnErr result (core.new.entries ≡ []) }
+    ensures sound { IsSound core.new }
+{
+    let Script { lines, schedule } = script;
+    core.reserve(lines.len() as u64 + LAST_CLIENT)?;
+    match verb {
+        Verb::Format => unreachable!(),
+        Verb::Exec => core.exec(lines),
+        Verb::Replay => core.replay(lines, &schedule),
+    }
+    Ok(())
+}
+
+// Runs the lines of a script on an opened core, and prints what was answered.
+fn run_script<D: Disk, G: Guids, K: Sink>(
     alloc: Global,
-    volume: Volume<D>,
-    lines: Vec<Line>,
+    verb: Verb,
+    core: Core<D, G>,
+    script: Script,
     out: &mut K,
 ) -> Ended<D>
-    requires up { volume.down ≡ None }
-    requires clean { volume.is_changed ≡ false }
-    requires table { IsTable volume.table }
-    requires built { All (λ l. IsBuilt l.command) lines.items }
-    ensures { (before : ℕ) → before ≤ volume.seen.faults
-        → LeavesRun volume lines.items (record {
+    requires verb { verb ≢ Verb.Format }
+    requires fresh { core.entries ≡ [] }
+    requires idle { AreIdle core.jobs }
+    requires saved { IsSaved core }
+    requires clients { All (λ l. IsClient l.client) script.lines.items }
+    requires built { All (λ l. IsBuilt l.command) script.lines.items }
+    ensures { (before : ℕ) → before ≤ core.start.faults
+        → LeavesRun verb core (parts_of script) (record {
           disk = before;
           disk_now = (D.seen result.disk).faults;
           source = 0;
@@ -44,24 +79,33 @@ fn exec_lines<D: Disk, K: Sink>(
         (exit_of (risen before (D.seen result.disk).faults) result.ending)
         result.history.entries }
 {
-    let mut volume = volume;
-    match run_lines(&mut volume, alloc, lines) {
-        Ok(history) => {
-            let printed = print_history(alloc, &history, out);
-            let is_down = volume.down().is_some();
+    let mut core = core;
+    match run_lines(&mut core, verb, script) {
+        Ok(()) => {
+            let printed = print_history(alloc, core.history(), out);
+            let is_down = core.down().is_some();
+            let CoreParts { disk, history } = core.into_parts();
             Ended {
                 ending: Ending::Ran { printed, is_down },
                 history,
-                disk: volume.into_disk(),
+                disk,
             }
         }
-        Err(_) => Ended::without_lines(alloc, Ending::NoRoom, volume.into_disk()),
+        Err(_) => Ended::without_lines(alloc, Ending::NoRoom, core.into_parts().disk),
     }
 }
 
 // Reads a script, and runs it on the disk's image.
-fn exec<D: Disk, S: Source, K: Sink>(alloc: Global, disk: D, input: &mut S, out: &mut K) -> Ended<D>
-    ensures { Serves (S.left input.old) (S.left input.new) (D.seen disk) (D.seen result.disk)
+fn serve<D: Disk, S: Source, K: Sink, G: Guids>(
+    alloc: Global,
+    verb: Verb,
+    disk: D,
+    input: &mut S,
+    out: &mut K,
+    guids: G,
+) -> Ended<D>
+    requires verb { verb ≢ Verb.Format }
+    ensures { Serves verb (S.left input.old) (S.left input.new) (D.seen disk) (D.seen result.disk)
         (record {
           disk = (D.seen disk).faults;
           disk_now = (D.seen result.disk).faults;
@@ -73,12 +117,12 @@ fn exec<D: Disk, S: Source, K: Sink>(alloc: Global, disk: D, input: &mut S, out:
         (exit_of (risen (D.seen disk).faults (D.seen result.disk).faults) result.ending)
         result.history.entries }
 {
-    let lines = match read_script(alloc, input) {
-        Ok(Script { lines, schedule: _ }) => lines,
+    let script = match read_script(alloc, input) {
+        Ok(script) => script,
         Err(fault) => return Ended::without_lines(alloc, Ending::Script(fault), disk),
     };
-    match Volume::open(alloc, disk) {
-        Ok(volume) => exec_lines(alloc, volume, lines, out),
+    match Core::open(alloc, disk, guids) {
+        Ok(core) => run_script(alloc, verb, core, script, out),
         Err(Refused { disk, fault }) => Ended::without_lines(alloc, Ending::Image(fault), disk),
     }
 }
@@ -112,15 +156,14 @@ pub fn run<D: Disk, S: Source, K: Sink, G: Guids>(
     // A script's answers are those of one legal history of separate files, which the image holds at
     // the start and at the end; each hindrance has its cause in the table before it. A stop at any
     // call behind opening's first leaves an image that opens as the files after some first entries,
-    // among them each sync and end that was answered by then.
+    // among them each sync, close and end that was answered by then.
     ensures history { IfExec (plan_of (texts words.now)) (IsHistory (D.seen disk)
         (D.seen result.disk) result.status result.history.entries) ⊤ }
 
-    // It has the script's calls, each once, in order; or none, where the run ended before the
-    // first.
-    ensures calls { IfExec (plan_of (texts words.now))
-        (HasCalls result.status (S.left input.old) result.history.entries)
-        (result.history.entries ≡ []) }
+    // It has the script's calls, each once, in the order that the verb has; or none, where the run
+    // ended before the first.
+    ensures calls { HasCalls (plan_of (texts words.now)) result.status (S.left input.old)
+        result.history.entries }
 
     // Words and scripts that are refused leave the disk as it was. An image that is refused, and a
     // script without lines, have it called no more than opening does.
@@ -168,7 +211,6 @@ pub fn run<D: Disk, S: Source, K: Sink, G: Guids>(
           sink_now = K.faults out.new;
         }) → (result.status ≡ Exit.Done) ⊎ (result.status ≡ Exit.Memory) }
 {
-    let _ = guids;
     let plan = match plan(alloc, words) {
         Ok(plan) => plan,
         Err(fault) => {
@@ -182,6 +224,6 @@ pub fn run<D: Disk, S: Source, K: Sink, G: Guids>(
     let before = disk.faults();
     match plan.layout {
         Some(layout) => format(alloc, disk, layout).outcome(before),
-        None => exec(alloc, disk, input, out).outcome(before),
+        None => serve(alloc, plan.verb, disk, input, out, guids).outcome(before),
     }
 }

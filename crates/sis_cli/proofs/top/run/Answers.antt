@@ -4,7 +4,7 @@ use Rattle.sis_cli.specs.Exit.{exit_of, risen}
 use Rattle.sis_cli.specs.Run.{Counts, ExecCause, LaysNew}
 use Rattle.sis_cli.specs.Words.{texts, plan_of, shown}
 use Rattle.sis_cli.specs.declared.exit.Exit.{Exit}
-use Rattle.sis_cli.proofs.WordLemmas.{any_format, cause_exec, complete_by, is_exec, refused_history}
+use Rattle.sis_cli.proofs.WordLemmas.{any_format, cause_exec, complete_by, no_format, refused_history}
 use Rattle.sis_cli.proofs.top.run.Goals as goal
 
 pub returns-in-Err-clause-history : goal.returns-in-Err-clause-history
@@ -19,8 +19,8 @@ returns-in-Err-clause-blocks g c =
     let seen = g.D.Disk.seen c.args.disk in
     any_format (plan_of (texts c.args.words.now)) (λ l. LaysNew l seen seen) (λ l. inl refl)
 
-pub returns-clause-complete : goal.returns-clause-complete
-returns-clause-complete g c =
+pub returns-in-None-clause-complete : goal.returns-in-None-clause-complete
+returns-in-None-clause-complete g c =
     let left = g.S.Source.left c.args.input.now in
     let live = live_of (g.D.Disk.seen c.args.disk) in
     let counts : g.row.D.Denot → Counts =
@@ -28,19 +28,19 @@ returns-clause-complete g c =
       disk = (g.D.Disk.seen c.args.disk).faults;
       disk_now = (g.D.Disk.seen d).faults;
       source = g.S.Source.faults c.args.input.now;
-      source_now = g.S.Source.faults c.exec.new.input;
+      source_now = g.S.Source.faults c.serve.new.input;
       sink = g.K.Sink.faults c.args.out.now;
-      sink_now = g.K.Sink.faults c.exec.new.out;
+      sink_now = g.K.Sink.faults c.serve.new.out;
     } in
     let status =
     c.outcome-in-None.ensures.status
-    ∙ ap (λ (n : ℕ). exit_of (risen n (g.D.Disk.seen c.exec.result.disk).faults)
-    c.exec.result.ending) c.faults-before.ensures in
+    ∙ ap (λ (n : ℕ). exit_of (risen n (g.D.Disk.seen c.serve.result.disk).faults)
+    c.serve.result.ending) c.faults-before.ensures in
     complete_by (plan_of (texts c.args.words.now)) _ _ _ _ c.outcome-in-None.result.status
     (cause_exec (plan_of (texts c.args.words.now)) (shown c.in-Ok.plan) _ _ _ _
     c.outcome-in-None.result.status c.in-Ok.ensures.words
-    (is_exec c.in-Ok.plan.verb c.in-Ok.plan.layout c.in-Ok.ensures.verb c.in-None.is)
+    (no_format c.in-Ok.plan.verb c.in-Ok.plan.layout c.in-Ok.ensures.verb c.in-None.is)
     (subst (λ (d : g.row.D.Denot). ExecCause left live (counts d) c.outcome-in-None.result.status)
     (sym c.outcome-in-None.ensures.disk)
-    (subst (λ (s : Exit). ExecCause left live (counts c.exec.result.disk) s) (sym status)
-    c.exec.ensures.cause)))
+    (subst (λ (s : Exit). ExecCause left live (counts c.serve.result.disk) s) (sym status)
+    c.serve.ensures.cause)))
