@@ -6,16 +6,8 @@ use sis_cli::{Exit, UsageFault, plan};
 use sis_script::LineKind;
 use std::alloc::Global;
 
-/// Ends for fields of verbs that no script may have yet, and for want of memory.
-const OTHERS: [Exit; 4] = [
-    Exit::Script {
-        line: 6,
-        kind: LineKind::Number,
-    },
-    Exit::Script {
-        line: 7,
-        kind: LineKind::Mode,
-    },
+/// Ends for a field of a verb that no script may have yet, and for want of memory.
+const OTHERS: [Exit; 2] = [
     Exit::Script {
         line: 8,
         kind: LineKind::Code,
