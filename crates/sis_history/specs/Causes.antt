@@ -16,7 +16,7 @@ use Rattle.sis_history.specs.Stage.{Stage}
 
 -- ---- what commands do
 
--- the command may read or write data blocks here
+-- the command reads or writes data blocks here
 abbrev pub moves_data : Stage → ℕ → Command → Bool
 moves_data s client (command.Put name bytes) =
     nat_lt 0 (need_of s client (command.Put name bytes)).blocks
@@ -56,7 +56,7 @@ commits command.Sync = true
 commits command.End = true
 commits _ = false
 
--- The command may call the disk here: it moves data, or commits what was edited. Any other makes no
+-- The command calls the disk here: it moves data, or commits what was edited. Any other makes no
 -- call.
 abbrev pub needs_disk : Stage → ℕ → Command → Bool
 needs_disk s client c = moves_data s client c || (commits c && s.is_changed)
@@ -78,8 +78,8 @@ pub record IsCarriedOut (s : Stage) (client : ℕ) (c : Command) (fresh : Fresh)
 abbrev pub IsMet : Stage → ℕ → Command → Hindrance → Type 0
 IsMet s client c by = hindrance_of s.table (need_of s client c) ≡ Some by
 
--- The disk failed once, and no call that it made fails a commit: the call was a read, or a write of
--- data blocks, which begin at the byte `first`, or it was refused.
+-- The disk failed once, and by no call of a commit: it was a read, or a write of data blocks, which
+-- begin at the byte `first`.
 pub record IsDataFault (first : ℕ) (old new : Seen) : Type 0 where
   pub rose : Rose old.faults new.faults
   pub once : new.faults ≤ old.faults + 1

@@ -25,8 +25,8 @@ MayRow s (Enters entry fresh) t = MayEnter s entry fresh t
 MayRow s (Fails client file at) t =
     (s.down ≡ None) × (file ≡ None) × IsSomeAnd (s.jobs client) (MayCommit s client)
 
--- Whether the table was edited since the last commit or the opening: only where it was before, or a
--- command that edits the table was carried out; and not behind a durable one.
+-- Whether the table was edited since the last commit or the opening: so a command leaves it that
+-- was carried out and edits the table, and none that is durable.
 abbrev pub EditsBy : Bool → Row → Bool → Type 0
 EditsBy old (Begins client command) new = new ≡ old
 EditsBy old (Enters entry fresh) new =
@@ -35,8 +35,8 @@ EditsBy old (Enters entry fresh) new =
     ⊎ ((kind_of entry.reply ≡ IsDone) × (edits_table entry.command ≡ true)))
 EditsBy old (Fails client file at) new = new ≡ old
 
--- A command begins without a call of the disk. No call that the disk made fails a commit in another
--- row but in the one that says so, and there it is the call of this number, or one was refused.
+-- A command begins without a call of the disk. No commit fails in another row but in the one that
+-- says so, and then by the call of this number.
 abbrev pub CallsBy : Row → ℕ → Seen → Seen → Type 0
 CallsBy (Begins client command) first old new = new ≡ old
 CallsBy (Enters entry fresh) first old new = StaysUp first old new
