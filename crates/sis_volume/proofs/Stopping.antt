@@ -1,6 +1,6 @@
 -- What the calls of a step leave to a stop.
-use Rattle.std.proofs.Common.{◌≡◌, ◌⊎◌, inl, inr, ⊎_elim, List, [], ◌∷◌, ◌++◌, Bool, true, Option, None, Some, refl, sym, ap, subst, ◌∙◌, ℕ}
-use Rattle.std.specs.Prelude.{IfSome, is_some, Result, Ok, Err, IfErr, OnErr, OnOk}
+use Rattle.std.proofs.Common.{◌≡◌, ◌⊎◌, inl, inr, ⊎_elim, List, [], ◌∷◌, ◌++◌, Bool, true, false, Option, None, Some, refl, sym, ap, subst, ◌∙◌, ℕ, ◌+◌, ◌<◌, arith}
+use Rattle.std.specs.Prelude.{IfSome, is_some, Result, Ok, Err, IfErr, IsOk, OnErr, OnOk}
 use Rattle.std.specs.Option.{option_map}
 use Rattle.sis_disk.specs.Causes.{GoesDown}
 use Rattle.sis_disk.specs.Layout.{first_byte}
@@ -210,6 +210,33 @@ pub stops_tried : {T : Type 0} (r : Result T Hindrance) (old new : VolumeView) �
     × (old.down ≡ None → GoesDown (first_byte old.table.layout) at old.seen new.seen)) → StopsWell old new
 stops_tried (Ok x) old new up may files ok err = stops_commit old new up may files (λ still. inr ok)
 stops_tried (Err h) old new up may files ok err = stops_failed old new up may files err.0 err.2
+
+-- Why a commit for room failed: the table was edited, since else it would have gone well.
+pub room_failed : {T : Type 0} (r : Result T Hindrance) (needed : ℕ) (old new : VolumeView)
+    → old.down ≡ None
+    → (old.down ≡ None → old.is_changed ≡ false → IsOk r × (new ≡ old))
+    → OnErr r (new ≡ record old { seen = new.seen; down = new.down })
+    → IfErr r (λ h. (at : ℕ) × (h ≡ hindrance.Down at) × (new.down ≡ Some at)
+    × (old.down ≡ None → GoesDown (first_byte old.table.layout) at old.seen new.seen))
+    → (old.down ≡ None → IfErr r (λ h. (at : ℕ) × (h ≡ hindrance.Down at)
+    × (at < old.seen.calls + 4)))
+    → IfErr r (HindersRoom needed old new)
+room_failed (Ok x) needed old new up unchanged err at number = tt
+room_failed (Err h) needed old new up unchanged err at number =
+    let soon = number up in
+    let down_is : hindrance.Down at.0 ≡ hindrance.Down soon.0 = sym at.1 ∙ soon.1 in
+    let call : at.0 ≡ soon.0 = cc in
+    subst (HindersRoom needed old new) (sym at.1) (record {
+      edited = edited old.is_changed refl;
+      soon = omega (arith, call, soon.2);
+      down = at.2;
+      failed = at.3 up;
+      same = err;
+    })
+  where
+    edited : (b : Bool) → old.is_changed ≡ b → old.is_changed ≡ true
+    edited true is = is
+    edited false is = absurd (let well = (unchanged up is).0 in cc)
 
 -- room was made, or not
 pub stops_room : {T : Type 0} (r : Result T Hindrance) (needed : ℕ) (old new : VolumeView)

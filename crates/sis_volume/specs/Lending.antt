@@ -48,11 +48,12 @@ calls_of_piece (Ok (piece.Zeros count)) = 0
 calls_of_piece (Err fault) = 1
 
 -- At most so many calls of the disk went by, all of them reads, and the volume is as it was. Where
--- the call failed, the count of faults rose.
+-- the number is 0, none was refused either. Where the call failed, the count of faults rose.
 pub record Looks {T E : Type 0} (most : ℕ) (result : Result T E) (old new : VolumeView)
     : Type 0 where
   pub same : new ≡ record old { seen = new.seen }
   pub fetched : Fetched most result old.seen new.seen
+  pub idle : most ≡ 0 → new.seen ≡ old.seen
 
 -- ---- parts, which only private functions cite
 

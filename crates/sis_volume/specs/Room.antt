@@ -1,5 +1,5 @@
 -- Why making room may fail.
-use Rattle.std.specs.Prelude.{◌≡◌, ℕ, ◌+◌, ◌<◌, Some}
+use Rattle.std.specs.Prelude.{◌≡◌, ℕ, ◌+◌, ◌<◌, true, Some}
 use Rattle.sis_disk.specs.Causes.{GoesDown}
 use Rattle.sis_disk.specs.Layout.{data_blocks, first_byte}
 use Rattle.sis_model.specs.declared.reply.Hindrance.{Hindrance}
@@ -7,8 +7,10 @@ use Rattle.sis_model.specs.declared.reply.Hindrance.TheVariants as hindrance
 use Rattle.sis_table.specs.Volume.{used}
 use Rattle.sis_volume.specs.View.{VolumeView}
 
--- a commit failed by this call, and nothing else changed
+-- A commit of what was edited failed by this call, one of its four, and nothing else changed.
 pub record WentDown (at : ℕ) (old new : VolumeView) : Type 0 where
+  pub edited : old.is_changed ≡ true
+  pub soon : at < old.seen.calls + 4
   pub down : new.down ≡ Some at
   pub failed : GoesDown (first_byte old.table.layout) at old.seen new.seen
   pub same : new ≡ record old { seen = new.seen; down = new.down }

@@ -88,7 +88,8 @@ fn lend<D: Disk>(disk: &mut Blocks<D>, part: Part) -> Result<Piece<'_>, ViewFaul
         (λ live. Lends live part piece)) }
     ensures stored { OnErr result (IsStored part) }
     ensures* after { sem 𝓛 (Rests (blocks_row D.row D.Disk) disk.entry
-        (λ now. Fetched (calls_of_piece result) result (D.seen disk.old) (D.seen now))) }
+        (λ now. Fetched (calls_of_piece result) result (D.seen disk.old) (D.seen now)
+        × (calls_of_piece result ≡ 0 → D.seen now ≡ D.seen disk.old))) }
 {
     match part {
         Part::Stored { place, from, len } => {

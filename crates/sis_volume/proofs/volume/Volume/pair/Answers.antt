@@ -22,6 +22,7 @@ returns g c =
         record {
           same = ap (λ (v : VolumeView). record v { seen = seen }) c.self.view_is;
           fetched = subst (λ (v : VolumeView). Fetched 2 c.fetch_two.result v.seen seen) c.self.view_is c.fetch_two.follows.holds-at-none;
+          idle = λ none. absurd {A = seen ≡ c.args.self.now.seen} cc;
         },
       ),
       record {

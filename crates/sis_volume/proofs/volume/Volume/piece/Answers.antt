@@ -25,7 +25,7 @@ pub invariant_of-self : goal.invariant_of-self
 invariant_of-self g c =
     let h = c.lend.follows.holds-at-none in
     kept-read c.self.inside.kept c.self.inside.journal c.self.inside.places c.self.inside.is_changed c.self.inside.down (calls_of_piece c.lend.result)
-    (g.D.Disk.seen c.self.inside.disk) (g.D.Disk.seen c.lend.follows.lender-at-none) h.reads c.self.invariant
+    (g.D.Disk.seen c.self.inside.disk) (g.D.Disk.seen c.lend.follows.lender-at-none) h.0.reads c.self.invariant
 
 -- what is told of the result, by what is told of its shape and its bytes
 told : {T E : Type 0} (r : Result T E) (o : Option DiskRecord) (n : ℕ) (Shape : T → Type 0) (Bytes Out : List ℕ → T → Type 0)
@@ -63,7 +63,8 @@ returns g c =
         λ x. tt,
         record {
           same = ap (λ (x : VolumeView). record x { seen = seen }) c.self.view_is;
-          fetched = subst (λ (x : VolumeView). Fetched (calls_of_piece c.lend.result) c.lend.result x.seen seen) c.self.view_is c.lend.follows.holds-at-none;
+          fetched = subst (λ (x : VolumeView). Fetched (calls_of_piece c.lend.result) c.lend.result x.seen seen) c.self.view_is c.lend.follows.holds-at-none.0;
+          idle = λ none. subst (λ (x : VolumeView). seen ≡ x.seen) c.self.view_is (c.lend.follows.holds-at-none.1 none);
         },
       ),
       record {

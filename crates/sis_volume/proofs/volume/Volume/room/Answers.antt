@@ -5,6 +5,7 @@ use Rattle.sis_table.specs.Volume.{IsTable, used}
 use Rattle.sis_volume.specs.Stopping.{IsCommitted}
 use Rattle.sis_volume.specs.View.{VolumeView, spare}
 use Rattle.sis_volume.proofs.Counts.{spare-committed, used_apart}
+use Rattle.sis_volume.proofs.Stopping.{room_failed}
 use Rattle.sis_volume.proofs.volume.Volume.room.Goals as goal
 
 pub overflow_sub-total : goal.overflow_sub-total
@@ -51,3 +52,8 @@ returns-clause-spare g c =
     let few = c.if-total-used.false in
     ok_weaker c.commit.result _ _ (λ (e : used c.args.self.now.table + spare c.commit.new.self ≡ data_blocks c.args.self.now.table.layout). omega arith)
     (after_commit c.commit.result c.args.self.now c.commit.new.self table c.commit.ensures.ok)
+
+pub returns-clause-cause : goal.returns-clause-cause
+returns-clause-cause g c = λ up.
+    room_failed c.commit.result c.args.needed c.args.self.now c.commit.new.self up
+    c.commit.ensures.unchanged c.commit.ensures.err c.commit.ensures.at c.commit.ensures.number
