@@ -41,6 +41,10 @@ calls_in (Some r) = r.calls
 pub mapped : get block_at_6 0 ≡ Some 6
 mapped = get-from_sorted nat_cmp ((0, 6) ∷ []) 0 tt
 
+-- the second block isn't mapped
+pub unmapped : get block_at_6 1 ≡ None
+unmapped = get-from_sorted nat_cmp ((0, 6) ∷ []) 1 tt
+
 pub listed : entries block_at_6 ≡ (0, 6) ∷ []
 listed = entries-from_sorted nat_cmp ((0, 6) ∷ []) tt
 

@@ -1,5 +1,6 @@
 -- Why a command is hindered, at the stage before its entry and by the disk's calls up to it.
-use Rattle.std.specs.Prelude.{◌≡◌, ◌≤◌, ℕ, ◌+◌, ◌&&◌, ◌||◌, nat_lt, Bool, true, false, length, Some, ⊤}
+use Rattle.std.specs.Prelude.{◌≡◌, ◌≤◌, ℕ, ◌+◌, ◌&&◌, ◌||◌, is_some, nat_lt, Bool, true, false, length, Some, ⊤}
+use Rattle.std.specs.Option.{option_and_then}
 use Rattle.sis_disk.specs.Causes.{StaysUp}
 use Rattle.sis_disk.specs.Layout.{first_byte, table_cap}
 use Rattle.sis_disk.specs.Record.{Rose, Seen}
@@ -8,11 +9,11 @@ use Rattle.sis_model.specs.declared.command.Command.TheVariants as command
 use Rattle.sis_model.specs.declared.reply.Hindrance.{Hindrance}
 use Rattle.sis_model.specs.declared.reply.Hindrance.TheVariants as hindrance
 use Rattle.sis_model.specs.declared.reply.LimitKind.TheVariants as limit
-use Rattle.sis_table.specs.Changes.{AreFreePlaces}
+use Rattle.sis_table.specs.Changes.{AreFreePlaces, size_of, write_of}
 use Rattle.sis_table.specs.Spelling.{spelling}
 use Rattle.sis_history.specs.Changed.{Fresh, changed_table}
 use Rattle.sis_history.specs.Needs.{IsTooLong, IsUnhindered, hindrance_of, need_of, reads_of}
-use Rattle.sis_history.specs.Stage.{Stage}
+use Rattle.sis_history.specs.Stage.{Stage, node_opened}
 
 -- ---- what commands do
 
@@ -28,14 +29,17 @@ moves_data s client (command.Size number len) =
     nat_lt 0 (need_of s client (command.Size number len)).blocks
 moves_data s client _ = false
 
--- the commands that change the table
-abbrev pub edits_table : Command → Bool
-edits_table (command.Put name bytes) = true
-edits_table (command.Write number at bytes) = true
-edits_table (command.Size number len) = true
-edits_table (command.Remove name) = true
-edits_table (command.Rename old new) = true
-edits_table _ = false
+-- Carried out here, the command changes the table: not a write without bytes, nor a size that the
+-- file has.
+abbrev pub edits_table : Stage → ℕ → Command → Bool
+edits_table s client (command.Put name bytes) = true
+edits_table s client (command.Write number at bytes) =
+    is_some (option_and_then (λ n. write_of n at (length bytes)) (node_opened s client number))
+edits_table s client (command.Size number len) =
+    is_some (option_and_then (λ n. size_of n len) (node_opened s client number))
+edits_table s client (command.Remove name) = true
+edits_table s client (command.Rename old new) = true
+edits_table s client _ = false
 
 -- the commands that take memory
 abbrev pub takes_memory : Command → Bool
@@ -107,7 +111,7 @@ IsCause s fresh t client c hindrance.Disk =
     × IsDataFault (first_byte s.table.layout) s.seen t.seen
 -- the table that the command leads to with what it would have taken
 IsCause s fresh t client c (hindrance.TableFull needed cap) =
-    (edits_table c ≡ true) × CanTake s client c fresh
+    (edits_table s client c ≡ true) × CanTake s client c fresh
     × IsTooLong s.table (changed_table s client c fresh) needed cap
     × (t.seen.faults ≡ s.seen.faults)
 IsCause s fresh t client c hindrance.Memory =

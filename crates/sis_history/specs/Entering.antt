@@ -100,13 +100,13 @@ pub record MayBegin (s : Stage) (client : ℕ) (command : Command) : Type 0 wher
   pub idle : s.jobs client ≡ None
   pub tidied : s.stales client ≡ []
 
--- A commit may fail in a step of this job: nothing refuses or hinders its command, which commits
--- what was edited, or needs blocks and may make room for them.
+-- A commit of what was edited may fail in a step of this job: nothing refuses or hinders its
+-- command, which commits, or needs blocks and may make room for them.
 pub record MayCommit (s : Stage) (client : ℕ) (j : Job) : Type 0 where
   pub accepted : refusal_of s.world client j.command ≡ None
   pub unhindered : IsUnhindered s.table (need_of s client j.command)
-  pub cause : ((commits j.command ≡ true) × (s.is_changed ≡ true))
-      ⊎ (0 < (need_of s client j.command).blocks)
+  pub edited : s.is_changed ≡ true
+  pub cause : (commits j.command ≡ true) ⊎ (0 < (need_of s client j.command).blocks)
 
 -- ---- what has to be answered
 

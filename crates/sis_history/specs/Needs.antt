@@ -1,5 +1,5 @@
 -- What an operation needs, and which limit it meets first.
-use Rattle.std.specs.Prelude.{◌≡◌, ◌<◌, ℕ, ◌+◌, ◌-◌, ◌/◌, ◌==◌, min, nat_lt, length, if◌then◌else◌, unwrap_or, Option, None, Some}
+use Rattle.std.specs.Prelude.{◌≡◌, ◌<◌, ℕ, ◌+◌, ◌-◌, ◌==◌, count_by, min, nat_lt, length, if◌then◌else◌, unwrap_or, Option, None, Some}
 use Rattle.std.specs.Option.{option_map}
 use Rattle.sis_disk.specs.Layout.{data_blocks, table_cap}
 use Rattle.sis_model.specs.declared.command.Command.{Command}
@@ -8,7 +8,8 @@ use Rattle.sis_model.specs.declared.range.ByteRange.{ByteRange}
 use Rattle.sis_model.specs.declared.reply.Hindrance.{Hindrance}
 use Rattle.sis_model.specs.declared.reply.Hindrance.TheVariants as hindrance
 use Rattle.sis_model.specs.declared.reply.LimitKind.TheVariants as limit
-use Rattle.sis_table.specs.Changes.{Resize, size_of, write_of}
+use Rattle.sis_ranges.specs.Extents.{is_mapped}
+use Rattle.sis_table.specs.Changes.{Resize, size_of, touched_blocks, write_of}
 use Rattle.sis_table.specs.Spelling.{spelling}
 use Rattle.sis_table.specs.Volume.{VolumeTable, blocks_of, greatest_number, most_nodes, used}
 use Rattle.sis_table.specs.declared.node.Node.{Node}
@@ -88,15 +89,16 @@ need_of s client command.End = no_need
 abbrev pub read_end : Node → ByteRange → ℕ
 read_end n range = min (range.at + range.len) n.size
 
--- how many blocks have a byte from one up to before another
-abbrev pub reads_between : ℕ → ℕ → ℕ
-reads_between at end = if nat_lt at end then blocks_of end - at / 4096 else 0
+-- how many blocks of the file that are mapped have a byte from one up to before another
+abbrev pub reads_between : Node → ℕ → ℕ → ℕ
+reads_between n at end =
+    if nat_lt at end then count_by (is_mapped n.map) (touched_blocks at (end - at)) else 0
 
--- how many blocks of the file the range touches
+-- how many of those that the range touches
 abbrev pub reads_in : ByteRange → Node → ℕ
-reads_in range n = reads_between range.at (read_end n range)
+reads_in range n = reads_between n range.at (read_end n range)
 
--- how many blocks of the client's open file a range touches
+-- how many of the client's open file
 abbrev pub reads_of : Stage → ℕ → ℕ → ByteRange → ℕ
 reads_of s client number range =
     unwrap_or (option_map (reads_in range) (node_opened s client number)) 0

@@ -1,5 +1,5 @@
 -- Stages and rows of client 1, for cases that are worked out by hand.
-use Rattle.std.specs.Prelude.{ℕ, ◌==◌, true, false, if◌then◌else◌, List, [], ◌∷◌, length, nat_lt, Option, None, Some}
+use Rattle.std.specs.Prelude.{ℕ, ◌==◌, true, false, if◌then◌else◌, List, [], ◌∷◌, length, nat_lt, replicate, Option, None, Some}
 use Rattle.std.specs.FinMap as map
 use Rattle.std.specs.FinMap.{FinMap}
 use Rattle.std.specs.Ordering.{nat_cmp}
@@ -146,6 +146,36 @@ after_write =
     stage (with_file (world_with_a (writer 1 ∷ [])) name_a
     (overwritten 8192 (98 ∷ []) (content (world_with_a (writer 1 ∷ [])) name_a)))
     (table_of 2 (plain 1 name_a 8193 2 map_after_write ∷ [])) (untold 7) None None
+
+-- ---- a write without bytes, where all was committed
+
+abbrev pub write_nothing : Command
+write_nothing = command.Write 1 8192 []
+
+abbrev pub before_nothing : Stage
+before_nothing =
+    saved (stage (world_with_a (writer 1 ∷ [])) table_with_a (untold 5) None
+    (job_on write_nothing))
+
+abbrev pub nothing_row : Row
+nothing_row = enters write_nothing reply.Done 5 []
+
+abbrev pub after_nothing : Stage
+after_nothing =
+    saved (stage (with_file (world_with_a (writer 1 ∷ [])) name_a
+    (content (world_with_a (writer 1 ∷ [])) name_a))
+    table_with_a (untold 5) None None)
+
+-- ---- a file of two blocks, the second of which is a hole
+
+abbrev pub world_with_hole : World
+world_with_hole = record (world_with_a (writer 1 ∷ [])) {
+  files = map.from_sorted ((name_a, 97 ∷ replicate 8191 0) ∷ []);
+}
+
+abbrev pub before_hole : Stage
+before_hole =
+    stage world_with_hole (table_of 2 (plain 1 name_a 8192 1 block_at_6 ∷ [])) (untold 5) None None
 
 -- ---- a close of a file that client 2 may write
 

@@ -27,13 +27,13 @@ MayRow s (Fails client file at) t =
 
 -- Whether the table was edited since the last commit or the opening: so a command leaves it that
 -- was carried out and edits the table, and none that is durable.
-abbrev pub EditsBy : Bool → Row → Bool → Type 0
-EditsBy old (Begins client command) new = new ≡ old
-EditsBy old (Enters entry fresh) new =
+abbrev pub EditsBy : Stage → Row → Bool → Type 0
+EditsBy s (Begins client command) new = new ≡ s.is_changed
+EditsBy s (Enters entry fresh) new =
     (is_durable entry ≡ true → new ≡ false)
-    × (new ≡ true → (old ≡ true)
-    ⊎ ((kind_of entry.reply ≡ IsDone) × (edits_table entry.command ≡ true)))
-EditsBy old (Fails client file at) new = new ≡ old
+    × (new ≡ true → (s.is_changed ≡ true)
+    ⊎ ((kind_of entry.reply ≡ IsDone) × (edits_table s entry.client entry.command ≡ true)))
+EditsBy s (Fails client file at) new = new ≡ s.is_changed
 
 -- A command begins without a call of the disk. No commit fails in another row but in the one that
 -- says so, and then by the call of this number.
@@ -55,7 +55,7 @@ pub record IsRow (s : Stage) (row : Row) (t : Stage) : Type 0 where
   pub calls : MayCall s.down row (first_byte s.table.layout) s.seen t.seen
   pub world : t.world ≡ world_by s.world row
   pub table : t.table ≡ table_by s row
-  pub edits : EditsBy s.is_changed row t.is_changed
+  pub edits : EditsBy s row t.is_changed
   pub down : t.down ≡ down_by s.down row
   pub jobs : (client : ℕ) → t.jobs client ≡ jobs_by s row client
   pub stales : (client : ℕ) → t.stales client ≡ stales_by s row client

@@ -1,9 +1,10 @@
 //! Rows that were worked out by hand. These functions do nothing: their clauses are what they are
 //! for.
-ghost use Rattle.std.specs.Prelude.{◌≡◌, ℕ, List, [], ◌∷◌, Option, Some, None};
+ghost use Rattle.std.specs.Prelude.{◌≡◌, ℕ, false, true, List, [], ◌∷◌, Option, Some, None};
+ghost use Rattle.sis_history.specs.Causes.{edits_table, needs_disk};
 ghost use Rattle.sis_history.specs.Changed.{Fresh};
-ghost use Rattle.sis_history.specs.Needs.{hindrance_of, put_need};
-ghost use Rattle.sis_history.specs.RowCases.{a_is_unsettled, after_close, after_end, after_put, after_rename, after_sync, after_write, before_close, before_end, before_put, before_rename, before_sync, before_write, close_row, commit_calls, data_calls, disk_row, down_row, end_row, fail_row, job_on, put_abc, put_row, put_stage, rename_row, sync_row, sync_stage, table_of, told, write_row};
+ghost use Rattle.sis_history.specs.Needs.{hindrance_of, put_need, reads_of};
+ghost use Rattle.sis_history.specs.RowCases.{a_is_unsettled, after_close, after_end, after_nothing, after_put, after_rename, after_sync, after_write, before_close, before_end, before_hole, before_nothing, before_put, before_rename, before_sync, before_write, close_row, commit_calls, data_calls, disk_row, down_row, end_row, fail_row, job_on, nothing_row, put_abc, put_row, put_stage, rename_row, saved, sync_row, sync_stage, table_of, told, write_far, write_row};
 ghost use Rattle.sis_history.specs.Rows.{Begins, Enters, Fails};
 ghost use Rattle.sis_history.specs.Runs.{IsRow, IsRun};
 ghost use Rattle.sis_history.specs.Stage.{Stage};
@@ -15,9 +16,12 @@ ghost use Rattle.sis_model.specs.declared.reply.Hindrance.TheVariants as hindran
 ghost use Rattle.sis_model.specs.declared.reply.LimitKind.TheVariants as limit;
 ghost use Rattle.sis_table.specs.Volume.{greatest_number};
 
-/// A put of three bytes makes a plain file with one block.
+/// A put of three bytes makes a plain file with one block. No commit fails in its step where
+/// nothing was edited since the last one.
 pub fn case_of_a_put()
-    ensures { IsRow before_put put_row after_put }
+    ensures row { IsRow before_put put_row after_put }
+    ensures commit { (file : Option ℕ) (at : ℕ) (t : Stage)
+        → ¬ (IsRow (saved before_put) (Fails 1 file at) t) }
 {}
 
 /// A put whose data can't be written is answered so. It changes nothing, and a commit that failed
@@ -38,6 +42,27 @@ pub fn case_of_a_write()
     ensures row { IsRow before_write (write_row (7 ∷ 8 ∷ [])) after_write }
     ensures used { (t : Stage) → ¬ (IsRow before_write (write_row (6 ∷ 8 ∷ [])) t) }
     ensures few { (t : Stage) → ¬ (IsRow before_write (write_row (8 ∷ [])) t) }
+{}
+
+/// A write without bytes makes no call of the disk, and leaves the table as it was committed.
+pub fn case_of_an_empty_write()
+    ensures row { IsRow before_nothing nothing_row after_nothing }
+    ensures saved { (t : Stage) → IsRow before_nothing nothing_row t → t.is_changed ≡ false }
+{}
+
+/// A write without bytes edits nothing, nor does a size that the file has.
+pub fn case_of_edits()
+    ensures empty { edits_table before_write 1 (command.Write 1 8192 []) ≡ false }
+    ensures bytes { edits_table before_write 1 write_far ≡ true }
+    ensures same { edits_table before_write 1 (command.Size 1 1) ≡ false }
+    ensures size { edits_table before_write 1 (command.Size 1 2) ≡ true }
+{}
+
+/// A read of a hole needs no disk, and one of a block on each side of it reads that block.
+pub fn case_of_a_hole()
+    ensures hole { needs_disk before_hole 1 (command.Read 1 4096 4096) ≡ false }
+    ensures block { needs_disk before_hole 1 (command.Read 1 4095 4096) ≡ true }
+    ensures few { reads_of before_hole 1 1 (record { at = 4095; len = 4097 }) ≡ 1 }
 {}
 
 /// A close of a file that another client may write leaves it to that one.

@@ -21,7 +21,7 @@ fails = record {
   may = (
     refl,
     refl,
-    record { accepted = refl; unhindered = rw listed refl; cause = inl (refl, refl) },
+    record { accepted = refl; unhindered = rw listed refl; edited = refl; cause = inl refl },
   );
   elapses = record { size = refl; calls = omega arith; faults = omega arith };
   calls = record {

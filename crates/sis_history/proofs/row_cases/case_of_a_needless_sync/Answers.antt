@@ -1,4 +1,4 @@
-use Rattle.std.proofs.Common.{◌≡◌, inl, inr, [], refl, ap, arith}
+use Rattle.std.proofs.Common.{◌≡◌, [], refl, ap, arith}
 use Rattle.std.specs.Prelude.{◌==◌, None}
 use Rattle.sis_disk.specs.Record.{Seen}
 use Rattle.sis_model.specs.declared.command.Command.TheVariants as command
@@ -49,7 +49,4 @@ returns-clause-call c r =
     omega (arith, calls))
 
 pub returns-clause-commit : goal.returns-clause-commit
-returns-clause-commit c file at t r = elim (r.may.2).cause [
-  | inl commits ↦ absurd (let changed = commits.1 in cc)
-  | inr takes ↦ omega (arith, takes)
-]
+returns-clause-commit c file at t r = absurd (let changed = (r.may.2).edited in cc)

@@ -7,8 +7,8 @@ use Rattle.sis_history.specs.Rows.{other_job, own_job}
 use Rattle.sis_history.proofs.CaseLemmas.{by_client, same_either, short_new, untold_elapse, untold_up}
 use Rattle.sis_history.proofs.row_cases.case_of_a_put.Goals as goal
 
-pub returns : goal.returns
-returns c = record {
+pub returns-clause-row : goal.returns-clause-row
+returns-clause-row c = record {
   may = record {
     job = record {
       asked = refl;
@@ -38,3 +38,6 @@ returns c = record {
       refl;
   stales = λ client. same_either [] (client == 1);
 }
+
+pub returns-clause-commit : goal.returns-clause-commit
+returns-clause-commit c file at t r = absurd (let changed = (r.may.2).edited in cc)
