@@ -1,16 +1,21 @@
 -- Reading a file part by part.
-use Rattle.std.proofs.Common.{◌≡◌, inl, inr, ℕ, ◌+◌, ◌-◌, ◌*◌, ◌/◌, ◌%◌, ◌<◌, ◌≤◌, Bool, true, false, List, [], ◌++◌, length, take, drop, replicate, Option, None, Some, refl, sym, ap, ap₂, ◌∙◌, subst, arith, append_assoc, append-nil, length-append, length-drop}
-use Rattle.std.specs.Prelude.{IfErr, IfSome, OnErr, OnOk, Ok, Err, Result, ◌==◌, min, max, nat_lt, slice_range}
+use Rattle.std.proofs.Common.{◌≡◌, inl, inr, ℕ, zero, suc, ◌+◌, ◌-◌, ◌*◌, ◌/◌, ◌%◌, ◌<◌, ◌≤◌, Bool, true, false, cond, List, [], ◌++◌, length, take, drop, replicate, Option, None, Some, refl, sym, ap, ap₂, ◌∙◌, subst, arith, append_assoc, append-nil, length-append, length-drop}
+use Rattle.std.specs.FinMap.{get}
+use Rattle.std.specs.List.{range_with_len}
+use Rattle.std.specs.Prelude.{IfErr, IfOk, IfSome, IsSome, count_by, is_some, OnErr, OnOk, Ok, Err, Result, ◌==◌, min, max, nat_lt, slice_range}
 use Rattle.std.specs.Result.{IsErrAnd}
 use Rattle.std.proofs.Math.Seq.{take-append-add}
 use Rattle.std.proofs.lemmas.Bool.{cases_lt}
 use Rattle.std.proofs.lemmas.Bool.Decides.{nat_tests}
 use Rattle.std.proofs.lemmas.List.{length-replicate, length-take-le, take-append-le, take-replicate, take_all, take-take}
+use Rattle.std.proofs.lemmas.List.Sums.{sum_by-cons}
 use Rattle.sis_history.specs.Needs.{read_end, reads_between, reads_in}
 use Rattle.sis_disk.specs.Record.{Seen, live_of}
 use Rattle.sis_model.specs.World.{resized}
 use Rattle.sis_model.specs.declared.reply.Hindrance.{Hindrance}
 use Rattle.sis_model.specs.declared.reply.Hindrance.TheVariants as hindrance
+use Rattle.sis_places.proofs.Tally.{tally, tally-split}
+use Rattle.sis_ranges.specs.Extents.{is_mapped}
 use Rattle.sis_table.specs.Content.{content_of}
 use Rattle.sis_table.specs.Edits.{IfThere}
 use Rattle.sis_table.specs.Kinds.{plain_node}
@@ -22,12 +27,12 @@ use Rattle.sis_view.specs.declared.piece.Piece.{Piece}
 use Rattle.sis_view.specs.declared.piece.Piece.TheVariants as piece
 use Rattle.sis_table.specs.Opens.{OpensAs}
 use Rattle.sis_view.proofs.CallerLemmas.{leaves_reading, reads_none, reads_then}
-use Rattle.sis_volume.specs.Lending.{IsPiece, piece_bytes, piece_len}
+use Rattle.sis_volume.specs.Lending.{IsPiece, Looks, calls_of_piece, piece_bytes, piece_len}
 use Rattle.sis_volume.specs.Stopping.{StopsWell}
 use Rattle.sis_volume.specs.View.{VolumeView}
 use Rattle.sis_volume.proofs.Stopping.{stops_none}
 use Rattle.sis_copyclose.specs.Calls.{one_if, stands_before, stands_behind}
-use Rattle.sis_copyclose.specs.Inside.{AddsBytes, AddsOld, AddsPart, Works}
+use Rattle.sis_copyclose.specs.Inside.{AddsBytes, AddsOld, AddsPart, ReadsFew, Works}
 use Rattle.sis_copyclose.specs.Reading.{Appends, HindersReading, OnlyLooks}
 use Rattle.sis_model.specs.declared.range.ByteRange.{ByteRange}
 use Rattle.sis_copyclose.proofs.Operations.{answered_down, given_up, never_down}
@@ -96,6 +101,96 @@ module _ (v : VolumeTable) (n : Node) (live : Option (List ℕ)) where
         adds.told;
   }
 
+-- ---- how many blocks are read
+
+tallied : (f : ℕ → Bool) (a k : ℕ) → count_by f (range_with_len a k) ≡ tally f a k
+tallied f a zero = refl
+tallied f a (suc k) =
+    sum_by-cons (λ (b : ℕ). cond (f b) 1 0) a (range_with_len (a + 1) k)
+    ∙ ap (λ (x : ℕ). cond (f a) 1 0 + x) (tallied f (a + 1) k)
+
+between_some : (n : Node) (at end : ℕ) → at < end → reads_between n at end
+    ≡ tally (is_mapped n.map) (at / 4096) (blocks_of end - at / 4096)
+between_some n at end lt =
+    let is : nat_lt at end ≡ true = grind (arith, nat_tests) in
+    let all : at + (end - at) ≡ end = omega (arith, lt) in
+    rw is
+    (ap (λ (k : ℕ). count_by (is_mapped n.map) (range_with_len (at / 4096) (blocks_of k - at / 4096))) all
+    ∙ tallied (is_mapped n.map) (at / 4096) (blocks_of end - at / 4096))
+
+between_none : (n : Node) (at end : ℕ) → end ≤ at → reads_between n at end ≡ 0
+between_none n at end le =
+    let no : nat_lt at end ≡ false = grind (arith, nat_tests) in
+    rw no refl
+
+-- they split at a later byte that begins a block
+between_split : (n : Node) (at next end : ℕ) → at ≤ next → next ≤ end
+    → (next < end → next % 4096 ≡ 0)
+    → reads_between n at end ≡ reads_between n at next + reads_between n next end
+between_split n at next end low high begins = elim (cases_lt at next) [
+  | inl some ↦ elim (cases_lt next end) [
+    | inl more ↦
+        (let begin = begins more in
+        let split = tally-split (is_mapped n.map) (blocks_of next - at / 4096)
+        (blocks_of end - next / 4096) (blocks_of end - at / 4096) (at / 4096) (next / 4096)
+        (omega (arith, begin, some, more)) (omega (arith, begin, some)) in
+        omega (
+          arith,
+          split,
+          between_some n at end (omega (arith, some, more)),
+          between_some n at next some,
+          between_some n next end more,
+        ))
+    | inr none ↦
+        (let same : end ≡ next = omega (arith, high, none) in
+        omega (arith, ap (reads_between n at) same, between_none n next end none))
+  ]
+  | inr none ↦
+      (let same : at ≡ next = omega (arith, low, none) in
+      omega (arith, ap (λ (k : ℕ). reads_between n k end) same, between_none n at next none))
+]
+
+-- the block of a byte is one of those from it on
+between_first : (n : Node) (at end : ℕ) → at < end
+    → reads_between n at (at + 1) ≤ reads_between n at end
+between_first n at end lt =
+    let one : blocks_of (at + 1) - at / 4096 ≡ 1 = omega arith in
+    omega (
+      arith,
+      between_some n at (at + 1) (omega arith),
+      between_some n at end lt,
+      ap (tally (is_mapped n.map) (at / 4096)) one,
+      first (is_mapped n.map) (at / 4096) (blocks_of end - at / 4096) (omega (arith, lt)),
+    )
+  where
+    first : (f : ℕ → Bool) (a k : ℕ) → 1 ≤ k → tally f a 1 ≤ tally f a k
+    first f a zero some = absurd (omega (arith, some))
+    first f a (suc k) some = omega arith
+
+-- one read where the byte's block is mapped, and else none
+between_one : (n : Node) (at : ℕ) (b : Bool) → is_mapped n.map (at / 4096) ≡ b
+    → reads_between n at (at + 1) ≡ one_if b
+between_one n at b is =
+    let one : blocks_of (at + 1) - at / 4096 ≡ 1 = omega arith in
+    between_some n at (at + 1) (omega arith)
+    ∙ ap (tally (is_mapped n.map) (at / 4096)) one
+    ∙ ap (λ (x : Bool). cond x 1 0 + 0) is ∙ by b
+  where
+    by : (x : Bool) → cond x 1 0 + 0 ≡ one_if x
+    by true = refl
+    by false = refl
+
+-- A part that ends with a block or with what is left takes a read for its first byte's block.
+part_reads : (n : Node) (next count end : ℕ) → next < end → 1 ≤ count → next + count ≤ end
+    → (next + count < end → (next + count) % 4096 ≡ 0)
+    → reads_between n next (next + 1) + reads_between n (next + count) end ≤ reads_between n next end
+part_reads n next count end lt some within begins =
+    omega (
+      arith,
+      between_split n next (next + count) end (omega arith) within begins,
+      between_first n next (next + count) (omega (arith, some)),
+    )
+
 -- ---- one part
 
 piece_some : (n : Node) (at : ℕ) (lent : Piece) → IsPiece n at lent → 1 ≤ piece_len lent
@@ -140,19 +235,17 @@ adds_piece v n at most count lent live out new some inside is count_is new_is to
 
 -- ---- all parts
 
--- So much was read.
+-- So much was read, and what is left takes no more reads than all may.
 pub record IsReading (v : VolumeTable) (n : Node) (at next end : ℕ) (live : Option (List ℕ))
     (out now : List ℕ) (before after' : Seen) : Type 0 where
   pub low : at ≤ next
   pub stop : next ≤ max at end
   pub bytes : AddsBytes v n at next live out now
   pub used : ℕ
-  pub begun : 0 < used → (at < end) × (next ≤ end)
-  pub few : next < end → used + at / 4096 ≤ next / 4096
-  pub most : used + at / 4096 ≤ blocks_of next
+  pub few : used + reads_between n next end ≤ reads_between n at end
   pub reads : OnlyReads used before after'
   pub quiet : after'.faults ≡ before.faults
-  pub idle : end ≤ at → after' ≡ before
+  pub idle : used ≡ 0 → after' ≡ before
 
 pub reading_none : (v : VolumeTable) (n : Node) (at end : ℕ) (live : Option (List ℕ)) (out : List ℕ)
     (seen : Seen) → IsReading v n at at end live out out seen seen
@@ -161,9 +254,7 @@ reading_none v n at end live out seen = record {
   stop = omega arith;
   bytes = adds_none v n live at out;
   used = 0;
-  begun = λ some. absurd (omega arith);
-  few = λ lt. omega arith;
-  most = omega arith;
+  few = omega arith;
   reads = reads_none 0 seen;
   quiet = refl;
   idle = λ none. refl;
@@ -173,27 +264,29 @@ pub reading_more : (v : VolumeTable) (n : Node) (at next end count : ℕ) (live 
     (out mid new : List ℕ) (before between after' : Seen) → next < end
     → IsReading v n at next end live out mid before between
     → AddsPart v n next (end - next) count (live_of between) mid new
-    → OnlyReads 1 between after' → after'.faults ≡ between.faults → live_of between ≡ live
+    → ReadsFew (reads_between n next (next + 1)) between after'
+    → after'.faults ≡ between.faults → live_of between ≡ live
     → IsReading v n at (next + count) end live out new before after'
 reading_more v n at next end count live out mid new before between after' lt so_far part reads still
     same =
     let low = so_far.low in
     let some = part.some in
     let less = part.few in
-    let few = so_far.few lt in
+    let few = so_far.few in
+    let one = reads_between n next (next + 1) in
+    let rest = part_reads n next count end lt some (omega (arith, lt, less))
+    (λ more. part.ends (omega (arith, more))) in
     let bytes : AddsBytes v n next (next + count) live mid new =
     subst (λ (o : Option (List ℕ)). AddsBytes v n next (next + count) o mid new) same part.bytes in
     record {
       low = omega arith;
       stop = omega arith;
       bytes = adds_then v n live at next (next + count) out mid new low (omega arith) so_far.bytes bytes;
-      used = so_far.used + 1;
-      begun = λ some'. (omega arith, omega arith);
-      few = λ more. (let whole = part.ends (omega arith) in omega arith);
-      most = omega arith;
-      reads = reads_then so_far.used 1 (so_far.used + 1) before between after' (omega arith) so_far.reads reads;
+      used = so_far.used + one;
+      few = omega (arith, few, rest);
+      reads = reads_then so_far.used one (so_far.used + one) before between after' (omega arith) so_far.reads reads.reads;
       quiet = still ∙ so_far.quiet;
-      idle = λ none. absurd (omega (arith, low, lt, none));
+      idle = λ none. reads.idle (omega (arith, none)) ∙ so_far.idle (omega (arith, none));
     }
 
 pub reading_all : (v : VolumeTable) (n : Node) (at next end : ℕ) (live : Option (List ℕ))
@@ -208,25 +301,12 @@ reading_all v n at next end live out now before after' le reading =
 pub reading_reads : (v : VolumeTable) (n : Node) (at next end : ℕ) (live : Option (List ℕ))
     (out now : List ℕ) (before after' : Seen)
     → IsReading v n at next end live out now before after'
-    → OnlyReads (reads_between at end) before after'
-reading_reads v n at next end live out now before after' reading =
-    reads_then reading.used 0 (reads_between at end) before after' after' few reading.reads
-    (reads_none 0 after')
-  where
-    some : (at end used : ℕ) → at < end → used + at / 4096 ≤ blocks_of end
-        → used + 0 ≤ reads_between at end
-    some at end used lt le =
-        let is : nat_lt at end ≡ true = grind (arith, nat_tests) in
-        rw is (omega (arith, le))
-
-    few : reading.used + 0 ≤ reads_between at end
-    few = elim (cases_lt 0 reading.used) [
-      | inl more ↦
-          (let inside = reading.begun more in
-          let most = reading.most in
-          some at end reading.used inside.0 (omega (arith, most, inside.1)))
-      | inr none ↦ omega (arith, none)
-    ]
+    → ReadsFew (reads_between n at end) before after'
+reading_reads v n at next end live out now before after' reading = record {
+  reads = reads_then reading.used 0 (reads_between n at end) before after' after'
+      (omega (arith, reading.few)) reading.reads (reads_none 0 after');
+  idle = λ none. reading.idle (omega (arith, none, reading.few));
+}
 
 -- ---- the file that is read
 
@@ -260,11 +340,68 @@ added_zeros v file at most count zeros live out new some there is told count_is 
     added_part v file at most count (piece.Zeros zeros) live out new some there is told count_is
     (new_is ∙ ap (λ (xs : List ℕ). out ++ xs) (sym (take-replicate count zeros 0 few)))
 
+-- what a part of it leaves
+abbrev pub ReadsPart : VolumeView → VolumeView → ℕ → ℕ → Type 0
+ReadsPart old new file at =
+    IfThere (node_with old.table file)
+    (λ n. ReadsFew (reads_between n at (at + 1)) old.seen new.seen)
+
+-- Lending a piece takes a call where its first block is mapped, and else none.
+lent_reads : {E : Type 0} (r : Result Piece E) (n : Node) (at : ℕ) (old new : VolumeView)
+    → IfOk r (IsPiece n at) → OnErr r (IsSome (get n.map (at / 4096)))
+    → Looks (calls_of_piece r) r old new
+    → ReadsFew (reads_between n at (at + 1)) old.seen new.seen
+lent_reads (Ok (piece.Bytes bytes)) n at old new is mapped looks =
+    let one : reads_between n at (at + 1) ≡ 1 = between_one n at true is.mapped in
+    subst (λ (k : ℕ). ReadsFew k old.seen new.seen) (sym one)
+    (record { reads = looks.fetched.reads; idle = looks.idle })
+lent_reads (Ok (piece.Zeros count)) n at old new is mapped looks =
+    let hole = is.unmapped (at / 4096) (omega arith) (omega (arith, is.some)) in
+    let none : reads_between n at (at + 1) ≡ 0 = between_one n at false (ap is_some hole) in
+    subst (λ (k : ℕ). ReadsFew k old.seen new.seen) (sym none)
+    (record { reads = looks.fetched.reads; idle = looks.idle })
+lent_reads (Err fault) n at old new is mapped looks =
+    let one : reads_between n at (at + 1) ≡ 1 = between_one n at true mapped in
+    subst (λ (k : ℕ). ReadsFew k old.seen new.seen) (sym one)
+    (record { reads = looks.fetched.reads; idle = looks.idle })
+
+pub piece_reads : {E : Type 0} (r : Result Piece E) (file at : ℕ) (old new : VolumeView)
+    (P : Node → Type 0) → IfThere (node_with old.table file) P
+    → IfOk r (λ lent. IfThere (node_with old.table file) (λ n. IsPiece n at lent))
+    → OnErr r (IfThere (node_with old.table file) (λ n. IsSome (get n.map (at / 4096))))
+    → Looks (calls_of_piece r) r old new → ReadsPart old new file at
+piece_reads r file at old new P there is mapped looks =
+    there_map (node_with old.table file) P _ (λ n n_is here.
+    lent_reads r n at old new (ok_there r n n_is is) (err_mapped r n n_is mapped) looks) there
+  where
+    o : Option Node
+    o = node_with old.table file
+
+    ok_there : {E : Type 0} (q : Result Piece E) (n : Node) → o ≡ Some n
+        → IfOk q (λ lent. IfThere o (λ m. IsPiece m at lent)) → IfOk q (IsPiece n at)
+    ok_there (Ok lent) n n_is h = there_has o n (λ m. IsPiece m at lent) n_is h
+    ok_there (Err fault) n n_is h = tt
+
+    err_mapped : {E : Type 0} (q : Result Piece E) (n : Node) → o ≡ Some n
+        → OnErr q (IfThere o (λ m. IsSome (get m.map (at / 4096))))
+        → OnErr q (IsSome (get n.map (at / 4096)))
+    err_mapped (Ok lent) n n_is h = tt
+    err_mapped (Err fault) n n_is h = there_has o n (λ m. IsSome (get m.map (at / 4096))) n_is h
+
 -- what was read, and the volume, whose disk alone went on
 abbrev pub ReadsOn : VolumeView → VolumeView → ℕ → ℕ → ℕ → ℕ → List ℕ → List ℕ → Type 0
 ReadsOn old now file at next end out mid =
     IfThere (node_with old.table file) (λ n. IsReading old.table n at next end
     (live_of old.seen) out mid old.seen now.seen)
+
+part_there : (old now later : VolumeView) (file next : ℕ) (n : Node)
+    → now ≡ record old { seen = now.seen } → node_with old.table file ≡ Some n
+    → ReadsPart now later file next
+    → ReadsFew (reads_between n next (next + 1)) now.seen later.seen
+part_there old now later file next n same is part =
+    there_has (node_with now.table file) n
+    (λ m. ReadsFew (reads_between m next (next + 1)) now.seen later.seen)
+    (ap (λ (v : VolumeView). node_with v.table file) same ∙ is) part
 
 pub pieces_none : (old : VolumeView) (file at end : ℕ) (out : List ℕ) (P : Node → Type 0)
     → IfThere (node_with old.table file) P → ReadsOn old old file at at end out out
@@ -277,7 +414,7 @@ pub pieces_more : (old now later : VolumeView) (file at next end count : ℕ) (o
     → ReadsOn old now file at next end out mid
     → IfThere (node_with now.table file) (λ n. AddsPart now.table n next (end - next) count
     (live_of now.seen) mid new)
-    → OnlyReads 1 now.seen later.seen → later.seen.faults ≡ now.seen.faults
+    → ReadsPart now later file next → later.seen.faults ≡ now.seen.faults
     → ReadsOn old later file at (next + count) end out new
 pieces_more old now later file at next end count out mid new lt same reading part reads still =
     let table : now.table ≡ old.table = ap (λ (v : VolumeView). v.table) same in
@@ -285,7 +422,7 @@ pieces_more old now later file at next end count out mid new lt same reading par
     there_map (node_with old.table file) _ _ (λ n n_is r.
     reading_more old.table n at next end count (live_of old.seen) out mid new old.seen now.seen later.seen lt r
     (there_has (node_with old.table file) n (λ m. AddsPart old.table m next (end - next) count (live_of now.seen) mid new) n_is there)
-    reads still r.reads.live) reading
+    (part_there old now later file next n same n_is reads) still r.reads.live) reading
 
 -- the count of a part is above 0, and no greater than what is left
 pub part_count : (v : VolumeTable) (file next most count : ℕ) (live : Option (List ℕ))
@@ -300,39 +437,21 @@ pub pieces_quiet : (old now : VolumeView) (file at next end : ℕ) (out mid : Li
 pieces_quiet old now file at next end out mid reading =
     (there_is (node_with old.table file) _ reading).2.quiet
 
-pub pieces_idle : (old now : VolumeView) (file at next end : ℕ) (out mid : List ℕ)
-    → ReadsOn old now file at next end out mid → end ≤ at → now.seen ≡ old.seen
-pieces_idle old now file at next end out mid reading none =
-    (there_is (node_with old.table file) _ reading).2.idle none
-
--- where a piece is left there is something to read
-pub pieces_begun : (old now : VolumeView) (file at next end : ℕ) (out mid : List ℕ)
-    → ReadsOn old now file at next end out mid → next < end → at < end
-pieces_begun old now file at next end out mid reading lt =
-    let low = (there_is (node_with old.table file) _ reading).2.low in
-    omega (arith, low, lt)
-
--- there is a block between two bytes, and none where they are in the other order
-pub some_between : (at end : ℕ) → at < end → 1 ≤ reads_between at end
-some_between at end lt =
-    let is : nat_lt at end ≡ true = grind (arith, nat_tests) in
-    rw is (omega (arith, lt))
-
-pub none_between : (at end : ℕ) → reads_between at end ≡ 0 → end ≤ at
-none_between at end none = elim (cases_lt at end) [
-  | inl lt ↦ absurd (omega (arith, none, some_between at end lt))
-  | inr le ↦ le
-]
-
 -- reading a piece failed
 pub pieces_failed : (old now later : VolumeView) (file at next end : ℕ) (out mid : List ℕ)
-    (by : Hindrance) → ReadsOn old now file at next end out mid → next < end
-    → HindersReading 1 now.seen later.seen by
-    → HindersReading (reads_between at end) old.seen later.seen by
-pieces_failed old now later file at next end out mid by reading lt cause =
-    reading_wider 1 (reads_between at end) old.seen now.seen later.seen by
-    (some_between at end (pieces_begun old now file at next end out mid reading lt))
-    (pieces_quiet old now file at next end out mid reading) cause
+    (by : Hindrance) → now ≡ record old { seen = now.seen }
+    → ReadsOn old now file at next end out mid → next < end
+    → IfThere (node_with now.table file)
+    (λ n. HindersReading (reads_between n next (next + 1)) now.seen later.seen by)
+    → IfThere (node_with old.table file)
+    (λ n. HindersReading (reads_between n at end) old.seen later.seen by)
+pieces_failed old now later file at next end out mid by same reading lt cause =
+    there_map (node_with old.table file) _ _ (λ n is r.
+    reading_wider (reads_between n next (next + 1)) (reads_between n at end) old.seen now.seen later.seen by
+    (omega (arith, r.few, between_first n next end lt)) r.quiet
+    (there_has (node_with now.table file) n
+    (λ m. HindersReading (reads_between m next (next + 1)) now.seen later.seen by)
+    (ap (λ (v : VolumeView). node_with v.table file) same ∙ is) cause)) reading
 
 -- what is left can be read
 pub pieces_there : (old now : VolumeView) (file next end : ℕ) → now ≡ record old { seen = now.seen }
@@ -357,24 +476,32 @@ pieces_front old now file at next end out mid reading =
     ap (take (length out)) it.2.bytes.added ∙ take-append-le (length out) out it.2.bytes.bytes (omega arith)
     ∙ take_all (length out) out (omega arith)
 
-pub pieces_reads : (old now : VolumeView) (file at next end : ℕ) (out mid : List ℕ)
-    → ReadsOn old now file at next end out mid → OnlyReads (reads_between at end) old.seen now.seen
-pieces_reads old now file at next end out mid reading =
-    let it = there_is (node_with old.table file) _ reading in
-    reading_reads old.table it.0 at next end (live_of old.seen) out mid old.seen now.seen it.2
+-- what the reads of all parts leave
+abbrev pub ReadsParts : VolumeView → VolumeView → ℕ → ℕ → ℕ → Type 0
+ReadsParts old new file at end =
+    IfThere (node_with old.table file) (λ n. ReadsFew (reads_between n at end) old.seen new.seen)
 
--- one read more, where some is left
+pub pieces_reads : (old now : VolumeView) (file at next end : ℕ) (out mid : List ℕ)
+    → ReadsOn old now file at next end out mid → ReadsParts old now file at end
+pieces_reads old now file at next end out mid reading =
+    there_map (node_with old.table file) _ _ (λ n is r.
+    reading_reads old.table n at next end (live_of old.seen) out mid old.seen now.seen r) reading
+
+-- one part more, where some is left
 pub pieces_last : (old now later : VolumeView) (file at next end : ℕ) (out mid : List ℕ) → next < end
-    → ReadsOn old now file at next end out mid → OnlyReads 1 now.seen later.seen
-    → OnlyReads (reads_between at end) old.seen later.seen
-pieces_last old now later file at next end out mid lt reading reads =
-    let it = there_is (node_with old.table file) _ reading in
-    let r = it.2 in
-    let few = r.few lt in
-    let low = r.low in
-    let inside : nat_lt at end ≡ true = grind (arith, nat_tests) in
-    reads_then r.used 1 (reads_between at end) old.seen now.seen later.seen
-    (rw inside (omega (arith, few, lt, low))) r.reads reads
+    → now ≡ record old { seen = now.seen }
+    → ReadsOn old now file at next end out mid → ReadsPart now later file next
+    → ReadsParts old later file at end
+pieces_last old now later file at next end out mid lt same reading reads =
+    there_map (node_with old.table file) _ _ (λ n is r.
+    let part = part_there old now later file next n same is reads in
+    let first = between_first n next end lt in
+    record {
+      reads = reads_then r.used (reads_between n next (next + 1)) (reads_between n at end)
+          old.seen now.seen later.seen (omega (arith, r.few, first)) r.reads part.reads;
+      idle = λ none.
+          part.idle (omega (arith, none, r.few, first)) ∙ r.idle (omega (arith, none, r.few));
+    }) reading
 
 -- ---- a range
 
@@ -463,19 +590,29 @@ only_looked most r old new up same reads idle quiet cause = record {
   down = never_down r old new up;
 }
 
+-- why it failed, of the file that is there
+err_there : {T : Type 0} (r : Result T Hindrance) (o : Option Node) (n : Node)
+    (P : Node → Hindrance → Type 0) → o ≡ Some n → IfErr r (λ by. IfThere o (λ m. P m by))
+    → IfErr r (P n)
+err_there (Ok x) o n P is h = tt
+err_there (Err by) o n P is h = there_has o n (λ m. P m by) is h
+
 -- the same of the file with an id
 pub read_looked : {T : Type 0} (r : Result T Hindrance) (old new : VolumeView) (file end : ℕ)
     (range : ByteRange) → old.down ≡ None → new ≡ record old { seen = new.seen }
     → IfThere (node_with old.table file) (λ n. end ≡ read_end n range)
-    → OnlyReads (reads_between range.at end) old.seen new.seen
-    → (end ≤ range.at → new.seen ≡ old.seen) → OnOk r (new.seen.faults ≡ old.seen.faults)
-    → IfErr r (HindersReading (reads_between range.at end) old.seen new.seen)
+    → ReadsParts old new file range.at end → OnOk r (new.seen.faults ≡ old.seen.faults)
+    → IfErr r (λ by. IfThere (node_with old.table file)
+    (λ n. HindersReading (reads_between n range.at end) old.seen new.seen by))
     → IfThere (node_with old.table file) (λ n. OnlyLooks (reads_in range n) r old new)
-read_looked r old new file end range up same ends reads idle quiet cause =
+read_looked r old new file end range up same ends reads quiet cause =
     there_map (node_with old.table file) _ _ (λ n is e.
-    subst (λ (k : ℕ). OnlyLooks (reads_between range.at k) r old new) e
-    (only_looked (reads_between range.at end) r old new up same reads
-    (λ none. idle (none_between range.at end none)) quiet cause)) ends
+    let few = there_has (node_with old.table file) n
+    (λ m. ReadsFew (reads_between m range.at end) old.seen new.seen) is reads in
+    subst (λ (k : ℕ). OnlyLooks (reads_between n range.at k) r old new) e
+    (only_looked (reads_between n range.at end) r old new up same few.reads few.idle quiet
+    (err_there r (node_with old.table file) n
+    (λ m by. HindersReading (reads_between m range.at end) old.seen new.seen by) is cause))) ends
 
 all_quiet : {T : Type 0} (r : Result T Hindrance) (v : VolumeView)
     → OnOk r (v.seen.faults ≡ v.seen.faults)
@@ -496,26 +633,38 @@ read_short r v file range P up there short =
 
 -- ---- within a block
 
--- a range that begins a block's part takes one read at most, and none where it has no byte
-pub few_reads : (n : Node) (range : ByteRange) (b : Bool) → range.at % 4096 + range.len ≤ 4096
-    → ((range.at < n.size) → 1 ≤ range.len → b ≡ true) → reads_in range n ≤ one_if b
+-- a range within a block takes one read at most, and none where it has no byte or isn't mapped
+few_reads : (n : Node) (range : ByteRange) (b : Bool) → range.at % 4096 + range.len ≤ 4096
+    → ((range.at < n.size) → 1 ≤ range.len → is_mapped n.map (range.at / 4096) ≡ true → b ≡ true)
+    → reads_in range n ≤ one_if b
 few_reads n range b short has = elim (cases_lt range.at (read_end n range)) [
   | inl some ↦
-      (let yes : nat_lt range.at (read_end n range) ≡ true = grind (arith, nat_tests) in
-      let is : b ≡ true = has (omega (arith, some)) (omega (arith, some)) in
-      let one : one_if b ≡ 1 = ap one_if is in
-      let few : blocks_of (read_end n range) - range.at / 4096 ≤ 1 = omega (arith, short, some) in
-      rw yes (omega (arith, one, few)))
-  | inr none ↦
-      (let no : nat_lt range.at (read_end n range) ≡ false = grind (arith, nat_tests) in
-      rw no (omega arith))
+      (let one : blocks_of (read_end n range) - range.at / 4096 ≡ 1 = omega (arith, short, some) in
+      let all : reads_in range n ≡ tally (is_mapped n.map) (range.at / 4096) 1 =
+      between_some n range.at (read_end n range) some
+      ∙ ap (tally (is_mapped n.map) (range.at / 4096)) one in
+      let least = by (is_mapped n.map (range.at / 4096)) b
+      (has (omega (arith, some)) (omega (arith, some))) in
+      omega (arith, all, least))
+  | inr none ↦ omega (arith, between_none n range.at (read_end n range) none)
 ]
+  where
+    by : (m b : Bool) → (m ≡ true → b ≡ true) → cond m 1 0 + 0 ≤ one_if b
+    by true true imp = omega arith
+    by true false imp = absurd (let no = imp refl in cc)
+    by false b imp = omega arith
 
-pub stops_read : (most : ℕ) (old new : VolumeView) → old.down ≡ None
+stops_read : (most : ℕ) (old new : VolumeView) → old.down ≡ None
     → OnlyReads most old.seen new.seen → StopsWell old new
 stops_read most old new up reads =
     stops_then old old new up up (stops_none old)
     (λ files opens. leaves_reading (OpensAs files) most old.seen new.seen reads opens)
+
+pub stops_parts : (old new : VolumeView) (file at end : ℕ) → old.down ≡ None
+    → ReadsParts old new file at end → StopsWell old new
+stops_parts old new file at end up reads =
+    let it = there_is (node_with old.table file) _ reads in
+    stops_read (reads_between it.0 at end) old new up it.2.reads
 
 -- the volume was down
 pub looked_down : {T : Type 0} (most : ℕ) (v : VolumeView) (at : ℕ) → v.down ≡ Some at
@@ -630,7 +779,7 @@ pub end_reads : (n : Node) (range : ByteRange) (ends : ℕ) → range.at % 4096 
     → range.len ≡ 4096 * ends → reads_in range n ≤ ends
 end_reads n range ends start few len =
     let most = few_reads n range (nat_lt 0 ends) (omega (arith, start, few, len))
-    (λ lt some. (let more : 0 < ends = omega (arith, some, len) in grind (arith, nat_tests))) in
+    (λ lt some is. (let more : 0 < ends = omega (arith, some, len) in grind (arith, nat_tests))) in
     elim (cases_lt 0 ends) [
       | inl some ↦ (let is : nat_lt 0 ends ≡ true = grind (arith, nat_tests) in
           omega (arith, most, ap one_if is, some))
@@ -642,18 +791,22 @@ pub before_reads : (n : Node) (range : ByteRange) (at : ℕ) → range.at ≡ 40
     → range.len ≡ at % 4096 → reads_in range n ≤ one_if (stands_before n at)
 before_reads n range at start len =
     few_reads n range (stands_before n at) (omega (arith, start, len))
-    (λ lt some.
-    (let inside : nat_lt (4096 * (at / 4096)) n.size ≡ true =
+    (λ lt some is.
+    (let block : range.at / 4096 ≡ at / 4096 = omega (arith, start) in
+    let there : is_mapped n.map (at / 4096) ≡ true = ap (is_mapped n.map) (sym block) ∙ is in
+    let inside : nat_lt (4096 * (at / 4096)) n.size ≡ true =
     (let less : 4096 * (at / 4096) < n.size = omega (arith, lt, start) in grind (arith, nat_tests)) in
     let part : (at % 4096 == 0) ≡ false = (let more : 0 < at % 4096 = omega (arith, some, len) in grind (arith, nat_tests)) in
-    rw (part, inside) refl))
+    rw (part, inside, there) refl))
 
 pub behind_reads : (n : Node) (range : ByteRange) (end : ℕ) → range.at ≡ end
     → range.len ≡ 4096 * blocks_of end - end → reads_in range n ≤ one_if (stands_behind n end)
 behind_reads n range end start len =
     few_reads n range (stands_behind n end) (omega (arith, start, len))
-    (λ lt some.
-    (let inside : nat_lt end n.size ≡ true =
+    (λ lt some is.
+    (let block : range.at / 4096 ≡ end / 4096 = omega (arith, start) in
+    let there : is_mapped n.map (end / 4096) ≡ true = ap (is_mapped n.map) (sym block) ∙ is in
+    let inside : nat_lt end n.size ≡ true =
     (let less : end < n.size = omega (arith, lt, start) in grind (arith, nat_tests)) in
     let part : (end % 4096 == 0) ≡ false = (let more : 0 < end % 4096 = omega (arith, some, len) in grind (arith, nat_tests)) in
-    rw (part, inside) refl))
+    rw (part, inside, there) refl))

@@ -25,11 +25,10 @@ use Rattle.sis_view.specs.Reading.{OnlyReads}
 use Rattle.sis_view.proofs.CallerLemmas.{leaves_reading, up_reading}
 use Rattle.sis_volume.specs.Staging.{HindersStaging, KeepsOthers}
 use Rattle.sis_volume.specs.Stopping.{OnlyOpens, StopsWell}
-use Rattle.sis_volume.specs.View.{VolumeView, held, spare}
+use Rattle.sis_volume.specs.View.{VolumeView, held}
 use Rattle.sis_volume.proofs.Stopping.{stops_none}
 use Rattle.sis_volume.proofs.Volumes.{fresh-avoids_current}
 use Rattle.sis_copyclose.specs.Calls.{room_calls}
-use Rattle.sis_copyclose.specs.Hindering.{LacksRoom}
 use Rattle.sis_copyclose.specs.Inside.{Readies, Works}
 use Rattle.sis_copyclose.specs.Operating.{KeepsPlaces}
 use Rattle.sis_copyclose.specs.Reading.{HindersReading}
@@ -242,9 +241,6 @@ works_wider m most a b few one = record {
 }
 
 -- ---- readied
-
-not_below : (v : VolumeView) (need : Need) → need.blocks ≤ spare v → LacksRoom need v → ⊥
-not_below v need le lt = omega (arith, le, lt)
 
 pub readied_none : (need : Need) (v : VolumeView) → v.down ≡ None → Readies need 0 v v
 readied_none need v up = record {

@@ -1,7 +1,7 @@
 -- How many calls of the disk an operation makes, at most.
 use Rattle.std.specs.Prelude.{ℕ, ◌+◌, ◌*◌, ◌/◌, ◌%◌, ◌==◌, ◌&&◌, max, not, nat_lt, Bool, [], if◌then◌else◌}
 use Rattle.sis_history.specs.Needs.{Need}
-use Rattle.sis_table.specs.Changes.{rewrites_end, touched_blocks}
+use Rattle.sis_table.specs.Changes.{maps, rewrites_end, touched_blocks}
 use Rattle.sis_table.specs.declared.node.Node.{Node}
 use Rattle.sis_volume.specs.View.{VolumeView, spare}
 
@@ -18,12 +18,14 @@ most_calls need reads v = need.blocks + reads + room_calls need v
 
 -- ---- blocks that a change of a file reads
 
--- old bytes stand before new ones in their first block, or behind them in their last one
+-- Old bytes stand before new ones in their first block, or behind them in their last one, and the
+-- block is mapped.
 abbrev pub stands_before : Node → ℕ → Bool
-stands_before n at = not (at % 4096 == 0) && nat_lt (4096 * (at / 4096)) n.size
+stands_before n at =
+    not (at % 4096 == 0) && nat_lt (4096 * (at / 4096)) n.size && maps n (at / 4096)
 
 abbrev pub stands_behind : Node → ℕ → Bool
-stands_behind n end = not (end % 4096 == 0) && nat_lt end n.size
+stands_behind n end = not (end % 4096 == 0) && nat_lt end n.size && maps n (end / 4096)
 
 -- the blocks of old bytes around so many new ones
 abbrev pub reads_around : Node → ℕ → ℕ → ℕ

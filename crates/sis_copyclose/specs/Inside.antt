@@ -3,7 +3,7 @@ use Rattle.std.specs.Prelude.{◌≡◌, ◌≢◌, ◌⊎◌, ℕ, ◌+◌, ◌
 use Rattle.std.specs.List.{range_with_len}
 use Rattle.sis_disk.specs.Causes.{StaysUp}
 use Rattle.sis_disk.specs.Layout.{first_byte}
-use Rattle.sis_disk.specs.Record.{live_of}
+use Rattle.sis_disk.specs.Record.{Seen, live_of}
 use Rattle.sis_disk.specs.Stops.{Elapses}
 use Rattle.sis_history.specs.Needs.{hindrance_of, IsUnhindered, Need, no_need, put_need, resize_need}
 use Rattle.sis_journal.specs.Committing.{Both}
@@ -20,6 +20,7 @@ use Rattle.sis_table.specs.declared.edit.Edit.{Edit}
 use Rattle.sis_table.specs.declared.edit.Edit.TheVariants as edit
 use Rattle.sis_table.specs.declared.kind.NodeKind.TheVariants.{Plain}
 use Rattle.sis_table.specs.declared.node.Node.{Node}
+use Rattle.sis_view.specs.Reading.{OnlyReads}
 use Rattle.sis_volume.specs.Stopping.{OnlyOpens, StopsWell}
 use Rattle.sis_volume.specs.View.{VolumeView, spare}
 use Rattle.sis_copyclose.specs.Calls.{one_if, reads_around, room_calls}
@@ -45,6 +46,11 @@ pub record AddsPart (v : VolumeTable) (n : Node) (at most count : ℕ) (live : O
   pub few : count ≤ most
   pub ends : count < most → (at + count) % 4096 ≡ 0
   pub bytes : AddsBytes v n at (at + count) live old new
+
+-- At most so many reads went by. Where the number is 0, none was refused either.
+pub record ReadsFew (most : ℕ) (old new : Seen) : Type 0 where
+  pub reads : OnlyReads most old new
+  pub idle : most ≡ 0 → new ≡ old
 
 -- ---- what goes by until the table is changed
 

@@ -5,9 +5,8 @@ ghost use Rattle.sis_disk.specs.Record.{live_of};
 ghost use Rattle.sis_table.specs.Edits.{IfThere};
 ghost use Rattle.sis_table.specs.Kinds.{plain_node};
 ghost use Rattle.sis_table.specs.Volume.{IsTable, node_with};
-ghost use Rattle.sis_view.specs.Reading.{OnlyReads};
 ghost use Rattle.sis_volume.specs.Stopping.{StopsWell};
-ghost use Rattle.sis_copyclose.specs.Inside.{AddsBytes, AddsPart};
+ghost use Rattle.sis_copyclose.specs.Inside.{AddsBytes, AddsPart, ReadsFew};
 ghost use Rattle.sis_copyclose.specs.Reading.{Appends, HindersReading, OnlyLooks};
 
 use crate::zeros::add_zeros;
@@ -32,9 +31,12 @@ fn add_piece<D: Disk>(
         (λ n. AddsPart volume.old.table n at most count (live_of volume.old.seen)
         out.old.items out.new.items)) }
     ensures err { OnErr result (out.new.items ≡ out.old.items) }
-    ensures cause { IfErr result (HindersReading 1 volume.old.seen volume.new.seen) }
+    ensures cause { IfErr result (λ by. IfThere (node_with volume.old.table file)
+        (λ n. HindersReading (reads_between n at (at + 1))
+        volume.old.seen volume.new.seen by)) }
     ensures same { volume.new ≡ record volume.old { seen = volume.new.seen } }
-    ensures reads { OnlyReads 1 volume.old.seen volume.new.seen }
+    ensures reads { IfThere (node_with volume.old.table file)
+        (λ n. ReadsFew (reads_between n at (at + 1)) volume.old.seen volume.new.seen) }
     ensures quiet { OnOk result (volume.new.seen.faults ≡ volume.old.seen.faults) }
 {
     match volume.piece(file, at) {
@@ -67,12 +69,12 @@ fn add_pieces<D: Disk>(
         (λ n. AddsBytes volume.old.table n at end (live_of volume.old.seen)
         out.old.items out.new.items)) }
     ensures front { take (length out.old.items) out.new.items ≡ out.old.items }
-    ensures cause { IfErr result
-        (HindersReading (reads_between at end) volume.old.seen volume.new.seen) }
+    ensures cause { IfErr result (λ by. IfThere (node_with volume.old.table file)
+        (λ n. HindersReading (reads_between n at end) volume.old.seen volume.new.seen by)) }
     ensures same { volume.new ≡ record volume.old { seen = volume.new.seen } }
-    ensures reads { OnlyReads (reads_between at end) volume.old.seen volume.new.seen }
+    ensures reads { IfThere (node_with volume.old.table file)
+        (λ n. ReadsFew (reads_between n at end) volume.old.seen volume.new.seen) }
     ensures quiet { OnOk result (volume.new.seen.faults ≡ volume.old.seen.faults) }
-    ensures idle { end ≤ at → volume.new.seen ≡ volume.old.seen }
 {
     let mut next = at;
     while next < end {

@@ -1,7 +1,7 @@
 use Rattle.std.proofs.Common.{◌∙◌, List, length, take, refl, ap, arith}
 use Rattle.sis_volume.specs.View.{VolumeView}
 use Rattle.sis_copyclose.proofs.Operations.{given_up}
-use Rattle.sis_copyclose.proofs.ReadParts.{part_count, pieces_all, pieces_begun, pieces_failed, pieces_front, pieces_idle, pieces_last, pieces_more, pieces_none, pieces_quiet, pieces_reads, pieces_there}
+use Rattle.sis_copyclose.proofs.ReadParts.{part_count, pieces_all, pieces_failed, pieces_front, pieces_last, pieces_more, pieces_none, pieces_quiet, pieces_reads, pieces_there}
 use Rattle.sis_copyclose.proofs.reading.add_pieces.Goals as goal
 
 pub loop-next-init : goal.loop-next-init
@@ -53,18 +53,8 @@ returns-in_err-next-clause-cause g c =
     given_up c.from_residual.result by _ c.from_residual.ensures.1
     (pieces_failed c.args.volume.now c.loop-next.volume c.add_piece.new.volume c.args.file c.args.at
     c.loop-next.next c.args.end c.args.out.now.items
-    c.loop-next.out.items by c.loop-next.invariant.reading c.loop-next-test.true
-    c.in_err-next.ensures.cause)
-
-pub returns-in_err-next-clause-idle : goal.returns-in_err-next-clause-idle
-returns-in_err-next-clause-idle g c = λ none.
-    absurd (omega (
-      arith,
-      none,
-      pieces_begun c.args.volume.now c.loop-next.volume c.args.file c.args.at c.loop-next.next
-          c.args.end c.args.out.now.items c.loop-next.out.items
-          c.loop-next.invariant.reading c.loop-next-test.true,
-    ))
+    c.loop-next.out.items by c.loop-next.invariant.same c.loop-next.invariant.reading
+    c.loop-next-test.true c.in_err-next.ensures.cause)
 
 pub returns-in_err-next-clause-same : goal.returns-in_err-next-clause-same
 returns-in_err-next-clause-same g c =
@@ -74,7 +64,8 @@ returns-in_err-next-clause-same g c =
 pub returns-in_err-next-clause-reads : goal.returns-in_err-next-clause-reads
 returns-in_err-next-clause-reads g c =
     pieces_last c.args.volume.now c.loop-next.volume c.add_piece.new.volume c.args.file c.args.at c.loop-next.next c.args.end c.args.out.now.items
-    c.loop-next.out.items c.loop-next-test.true c.loop-next.invariant.reading c.add_piece.ensures.reads
+    c.loop-next.out.items c.loop-next-test.true c.loop-next.invariant.same
+    c.loop-next.invariant.reading c.add_piece.ensures.reads
 
 pub returns-clause-added : goal.returns-clause-added
 returns-clause-added g c =
@@ -94,11 +85,5 @@ returns-clause-reads g c =
 pub returns-clause-quiet : goal.returns-clause-quiet
 returns-clause-quiet g c =
     pieces_quiet c.args.volume.now c.loop-next.volume c.args.file c.args.at c.loop-next.next
-    c.args.end c.args.out.now.items c.loop-next.out.items
-    c.loop-next.invariant.reading
-
-pub returns-clause-idle : goal.returns-clause-idle
-returns-clause-idle g c =
-    pieces_idle c.args.volume.now c.loop-next.volume c.args.file c.args.at c.loop-next.next
     c.args.end c.args.out.now.items c.loop-next.out.items
     c.loop-next.invariant.reading
