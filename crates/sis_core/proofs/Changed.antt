@@ -1,12 +1,13 @@
 -- Changes of an open file: writes, and new sizes.
 use Rattle.std.proofs.Common.{◌≡◌, ◌⊎◌, inl, inr, ℕ, ◌+◌, ◌-◌, ◌/◌, ◌<◌, ◌≤◌, Bool, true, false, cond, ◌||◌, eqb, List, [], ◌∷◌, length, Option, None, Some, is_some, Result, Ok, Err, refl, sym, ap, ap₂, subst, ◌∙◌, arith}
-use Rattle.std.specs.Prelude.{MatchOption, max, nat_lt, not, unwrap_or, ◌==◌}
-use Rattle.std.specs.Option.{option_map}
+use Rattle.std.specs.Prelude.{IsOk, MatchOption, max, nat_lt, not, unwrap_or, ◌==◌}
+use Rattle.std.specs.Option.{option_and_then, option_map}
 use Rattle.std.proofs.lemmas.Bool.Decides.{nat_tests}
 use Rattle.std.proofs.lemmas.List.FromFn.{length-range_with_len}
 use Rattle.sis_copyclose.specs.Calls.{one_if, reads_around, size_reads, write_reads}
 use Rattle.sis_copyclose.specs.Changed.{IsWithResize, with_bytes}
 use Rattle.sis_copyclose.specs.Operating.{Operates}
+use Rattle.sis_history.specs.Causes.{edits_table}
 use Rattle.sis_history.specs.Changed.{Fresh}
 use Rattle.sis_history.specs.Durable.{makes_durable}
 use Rattle.sis_history.specs.Needs.{Need, no_need, resize_need}
@@ -26,7 +27,7 @@ use Rattle.sis_table.specs.Volume.{VolumeTable, IsTable, blocks_of, node_with}
 use Rattle.sis_table.specs.declared.node.Node.{Node}
 use Rattle.sis_table.proofs.ChangeLemmas.{find-with_node}
 use Rattle.sis_volume.specs.View.{VolumeView}
-use Rattle.sis_core.specs.Deciding.{Decides}
+use Rattle.sis_core.specs.Deciding.{DecidesFor}
 use Rattle.sis_core.specs.Opens.{open_as}
 use Rattle.sis_core.specs.Session.{AreThere, Jobs, SessionView, ShowsWorld, name_by, session, stage_of}
 use Rattle.sis_core.specs.declared.opens.Open.{Open}
@@ -164,16 +165,16 @@ pub not_writer : (w : World) (s : SessionView) (client number : ℕ) (c : Comman
     (λ o. (o.writes ≡ false) × (r ≡ reply.AccessDenied))
     → refusal_of w client c ≡ refusal_of_writer (open_of w client number) next
     → makes_durable c reply.InvalidOpen ≡ false → makes_durable c reply.AccessDenied ≡ false
-    → Decides w s s client c r
+    → DecidesFor w s s client c r
 not_writer w s client number c next r shows t up why asks passing_none passing =
     by (open_as client number s.opens) refl why
   where
     by : (m : Option Open) → open_as client number s.opens ≡ m
         → MatchOption m (r ≡ reply.InvalidOpen)
         (λ o. (o.writes ≡ false) × (r ≡ reply.AccessDenied))
-        → Decides w s s client c r
+        → DecidesFor w s s client c r
     by None is why =
-        subst (λ (q : Reply). Decides w s s client c q) (sym why)
+        subst (λ (q : Reply). DecidesFor w s s client c q) (sym why)
         (unopened w s client number c None shows up (sym is) refl passing_none
         (λ none. asks ∙ ap (λ (f : Option OpenFile). refusal_of_writer f next) none))
     by (Some o) is why =
@@ -181,7 +182,7 @@ not_writer w s client number c next r shows t up why asks passing_none passing =
         let refusal : refusal_of w client c ≡ Some reply.AccessDenied =
         asks ∙ ap (λ (f : Option OpenFile). refusal_of_writer f next) (file.1).open'
         ∙ ap (λ (b : Bool). or_refused (not b) reply.AccessDenied next) why.0 in
-        subst (λ (q : Reply). Decides w s s client c q) (sym why.1)
+        subst (λ (q : Reply). DecidesFor w s s client c q) (sym why.1)
         (refused w s client c reply.AccessDenied shows up refusal refl refl passing refusal
         (λ fresh jobs later next. tt))
 
@@ -202,7 +203,7 @@ module _ (w : World) (s : SessionView) (client number : ℕ) (o : Open) (n : Nod
       → refusal_of w client c
       ≡ refusal_of_writer (open_of w client number) (or_refused test reply.InvalidParameter None)
       → makes_durable c reply.InvalidParameter ≡ false
-      → Decides w s s client c reply.InvalidParameter
+      → DecidesFor w s s client c reply.InvalidParameter
   too_much c test writes fails asks passing =
       let why : refusal_of w client c ≡ Some reply.InvalidParameter =
       asks ∙ tested test writes
@@ -213,7 +214,7 @@ module _ (w : World) (s : SessionView) (client number : ℕ) (o : Open) (n : Nod
   pub write_too_much : (at : ℕ) (bytes : List ℕ) → o.writes ≡ true
       → (65536 < length bytes)
       ⊎ ((length bytes ≤ 65536) × (68719476736 < at + length bytes))
-      → Decides w s s client (asked.Write number at bytes) reply.InvalidParameter
+      → DecidesFor w s s client (asked.Write number at bytes) reply.InvalidParameter
   write_too_much at bytes writes much =
       too_much (asked.Write number at bytes)
       (nat_lt most_bytes (length bytes) || nat_lt greatest_size (at + length bytes)) writes
@@ -226,7 +227,7 @@ module _ (w : World) (s : SessionView) (client number : ℕ) (o : Open) (n : Nod
       by (inr far) = (let lt = far.1 in grind (arith, nat_tests))
 
   pub size_too_much : (len : ℕ) → o.writes ≡ true → 68719476736 < len
-      → Decides w s s client (asked.Size number len) reply.InvalidParameter
+      → DecidesFor w s s client (asked.Size number len) reply.InvalidParameter
   size_too_much len writes much =
       too_much (asked.Size number len) (nat_lt greatest_size len) writes
       (grind (arith, nat_tests)) refl refl
@@ -247,6 +248,15 @@ Sizes len result old new n =
     Operates (resize_need n (size_of n len)) (IsWithResize old.table n (size_of n len))
     (with_bytes n.name (resized len)) (size_reads n len) result old new
 
+-- there is a change, unless the test says that there is none
+some_change : (b : Bool) (r : Resize) → b ≡ false → is_some (cond b None (Some r)) ≡ true
+some_change true r is = absurd cc
+some_change false r is = refl
+
+-- the size that a file has is given to it without a call, and changes nothing
+abbrev pub Stays : {T : Type 0} → ℕ → Result T Hindrance → VolumeView → VolumeView → Node → Type 0
+Stays len result old new n = n.size ≡ len → old.down ≡ None → IsOk result × (new ≡ old)
+
 module _ (w : World) (s : SessionView) (client number : ℕ) (o : Open) (n : Node)
     (shows : ShowsWorld w s) (up : s.volume.down ≡ None) (is : IsOpened w s client number o n)
     (writes : o.writes ≡ true) where
@@ -266,6 +276,12 @@ module _ (w : World) (s : SessionView) (client number : ℕ) (o : Open) (n : Nod
   moves resize reads none jobs =
       ap (λ (need : Need). nat_lt 0 need.blocks) (needed resize jobs)
       ∙ moved (resize_need n (resize n)).blocks reads none
+
+  reads_are : (reads : Node → ℕ) (jobs : Jobs)
+      → unwrap_or (option_map reads (node_opened (stage_of w s.volume jobs) client number)) 0
+      ≡ reads n
+  reads_are reads jobs =
+      ap (λ (m : Option Node). unwrap_or (option_map reads m) 0) (is.found jobs)
 
   leads : (resize : Node → Option Resize) (next : VolumeTable)
       → IsWithResize s.volume.table n (resize n) next
@@ -311,27 +327,55 @@ module _ (w : World) (s : SessionView) (client number : ℕ) (o : Open) (n : Nod
           ∙ ap (λ (b : Bool). or_refused b reply.InvalidParameter None) test;
       need_is = needed change_of;
       moves = moves change_of (write_reads n at (length bytes)) (write_moves n at (length bytes));
+      reads_is = reads_are (λ m. write_reads m at (length bytes));
       waits = refl;
-      edits = refl;
       memory = refl;
       leads = leads change_of;
     }
 
+    -- a write of no bytes does nothing
+    write_edits : {T : Type 0} (result : Result T Hindrance) (new : VolumeView)
+        → (length bytes ≡ 0 → s.volume.down ≡ None → IsOk result × (new ≡ s.volume))
+        → (jobs : Jobs)
+        → (edits_table (stage_of w s.volume jobs) client (asked.Write number at bytes) ≡ true)
+        ⊎ (IsOk result × (new ≡ s.volume))
+    write_edits result new nothing jobs = by (length bytes == 0) refl
+      where
+        edits : is_some (option_and_then change_of
+            (node_opened (stage_of w s.volume jobs) client number)) ≡ is_some (change_of n)
+        edits = ap (λ (m : Option Node). is_some (option_and_then change_of m)) (is.found jobs)
+
+        by : (b : Bool) → (length bytes == 0) ≡ b
+            → (edits_table (stage_of w s.volume jobs) client (asked.Write number at bytes) ≡ true)
+            ⊎ (IsOk result × (new ≡ s.volume))
+        by true none = inr (nothing (grind (arith, nat_tests, none)) up)
+        by false some =
+            inl (edits ∙ some_change (length bytes == 0) (record {
+              size = max n.size (at + length bytes);
+              blocks =
+                  with_end n (max n.size (at + length bytes)) (touched_blocks at (length bytes));
+            }) some)
+
     pub written_ok : {T : Type 0} (result : Result T Hindrance) (x : T) (new : VolumeView)
-        → Writes at bytes result s.volume new n → result ≡ Ok x
-        → Decides w s (session new s.opens) client (asked.Write number at bytes) reply.Done
-    written_ok result x new left ok =
+        → Writes at bytes result s.volume new n
+        → (length bytes ≡ 0 → s.volume.down ≡ None → IsOk result × (new ≡ s.volume))
+        → result ≡ Ok x
+        → DecidesFor w s (session new s.opens) client (asked.Write number at bytes) reply.Done
+    written_ok result x new left nothing ok =
         operated_ok w s client (asked.Write number at bytes) _ _ _ _ write_suits shows up result x
-        new left ok refl (changed_files (written at bytes)) (changed_opens (written at bytes))
+        new left ok (write_edits result new nothing) refl (changed_files (written at bytes))
+        (changed_opens (written at bytes))
         (λ next led. keeps_opens s.volume.table s.opens n (change_of n) next shows.there led)
 
     pub written_err : {T : Type 0} (result : Result T Hindrance) (by : Hindrance)
-        (new : VolumeView) → Writes at bytes result s.volume new n → result ≡ Err by
-        → Decides w s (session new s.opens) client (asked.Write number at bytes)
+        (new : VolumeView) → Writes at bytes result s.volume new n
+        → (length bytes ≡ 0 → s.volume.down ≡ None → IsOk result × (new ≡ s.volume))
+        → result ≡ Err by
+        → DecidesFor w s (session new s.opens) client (asked.Write number at bytes)
         (reply.Hindered by)
-    written_err result by new left err =
+    written_err result by new left nothing err =
         operated_err w s client (asked.Write number at bytes) _ _ _ _ write_suits shows up result
-        by new left err
+        by new left err (write_edits result new nothing)
 
   module _ (len : ℕ) (limit : len ≤ 68719476736) where
     abbrev size_change : Node → Option Resize
@@ -346,23 +390,50 @@ module _ (w : World) (s : SessionView) (client number : ℕ) (o : Open) (n : Nod
           ∙ ap (λ (b : Bool). or_refused b reply.InvalidParameter None) test;
       need_is = needed size_change;
       moves = moves size_change (size_reads n len) (size_moves n len);
+      reads_is = reads_are (λ m. size_reads m len);
       waits = refl;
-      edits = refl;
       memory = refl;
       leads = leads size_change;
     }
 
+    -- the size that the file has
+    size_edits : {T : Type 0} (result : Result T Hindrance) (new : VolumeView)
+        → Stays len result s.volume new n → (jobs : Jobs)
+        → (edits_table (stage_of w s.volume jobs) client (asked.Size number len) ≡ true)
+        ⊎ (IsOk result × (new ≡ s.volume))
+    size_edits result new nothing jobs = by (len == n.size) refl
+      where
+        edits : is_some (option_and_then size_change
+            (node_opened (stage_of w s.volume jobs) client number)) ≡ is_some (size_change n)
+        edits =
+            ap (λ (m : Option Node). is_some (option_and_then size_change m)) (is.found jobs)
+
+        by : (b : Bool) → (len == n.size) ≡ b
+            → (edits_table (stage_of w s.volume jobs) client (asked.Size number len) ≡ true)
+            ⊎ (IsOk result × (new ≡ s.volume))
+        by true same = inr (nothing (grind (arith, nat_tests, same)) up)
+        by false other =
+            inl (edits ∙ some_change (len == n.size) (record {
+              size = len;
+              blocks = with_end n len [];
+            }) other)
+
     pub sized_ok : {T : Type 0} (result : Result T Hindrance) (x : T) (new : VolumeView)
-        → Sizes len result s.volume new n → result ≡ Ok x
-        → Decides w s (session new s.opens) client (asked.Size number len) reply.Done
-    sized_ok result x new left ok =
+        → Sizes len result s.volume new n
+        → Stays len result s.volume new n
+        → result ≡ Ok x
+        → DecidesFor w s (session new s.opens) client (asked.Size number len) reply.Done
+    sized_ok result x new left nothing ok =
         operated_ok w s client (asked.Size number len) _ _ _ _ size_suits shows up result x new
-        left ok refl (changed_files (resized len)) (changed_opens (resized len))
+        left ok (size_edits result new nothing) refl (changed_files (resized len))
+        (changed_opens (resized len))
         (λ next led. keeps_opens s.volume.table s.opens n (size_change n) next shows.there led)
 
     pub sized_err : {T : Type 0} (result : Result T Hindrance) (by : Hindrance)
-        (new : VolumeView) → Sizes len result s.volume new n → result ≡ Err by
-        → Decides w s (session new s.opens) client (asked.Size number len) (reply.Hindered by)
-    sized_err result by new left err =
+        (new : VolumeView) → Sizes len result s.volume new n
+        → Stays len result s.volume new n
+        → result ≡ Err by
+        → DecidesFor w s (session new s.opens) client (asked.Size number len) (reply.Hindered by)
+    sized_err result by new left nothing err =
         operated_err w s client (asked.Size number len) _ _ _ _ size_suits shows up result by new
-        left err
+        left err (size_edits result new nothing)

@@ -1,5 +1,5 @@
 -- What commands that commit are answered.
-use Rattle.std.proofs.Common.{◌≡◌, inl, inr, ℕ, ◌&&◌, ◌||◌, not, Bool, true, false, if◌then◌else◌, List, [], filter, length, Option, None, Some, Result, Ok, Err, refl, sym, ap, subst, ◌∙◌}
+use Rattle.std.proofs.Common.{◌≡◌, inl, inr, ℕ, ◌+◌, ◌<◌, ◌≤◌, ◌&&◌, ◌||◌, not, Bool, true, false, if◌then◌else◌, List, [], filter, length, Option, None, Some, Result, Ok, Err, refl, sym, ap, subst, ◌∙◌, arith}
 use Rattle.std.specs.Prelude.{IfErr, IfSome, IsOk, IsSomeAnd, OnErr, OnOk, ◌==◌}
 use Rattle.sis_disk.specs.Causes.{GoesDown, GoesWell}
 use Rattle.sis_disk.specs.Layout.{first_byte}
@@ -10,6 +10,7 @@ use Rattle.sis_history.specs.Causes.{IsCarriedOut, commits, moves_data}
 use Rattle.sis_history.specs.Changed.{changed_table, table_as}
 use Rattle.sis_history.specs.Entering.{comes_first, is_down}
 use Rattle.sis_history.specs.Needs.{IsUnhindered, Need, need_of, no_need}
+use Rattle.sis_history.specs.Stage.{Stage}
 use Rattle.sis_history.specs.Replies.{Fits, IsFate}
 use Rattle.sis_history.proofs.ExactLemmas.{no_need_free}
 use Rattle.sis_model.specs.Answer.{IsDone, MayReply, kind_of, refusal_of, refusal_of_open}
@@ -29,7 +30,8 @@ use Rattle.sis_table.specs.Volume.{VolumeTable, IsTable, node_named}
 use Rattle.sis_table.specs.declared.node.Node.{Node}
 use Rattle.sis_volume.specs.Stopping.{IsCommitted}
 use Rattle.sis_volume.specs.View.{VolumeView}
-use Rattle.sis_core.specs.Deciding.{Decided, Decides, plain_job}
+use Rattle.sis_core.specs.Costs.{CallsFor, FailsFor, step_calls}
+use Rattle.sis_core.specs.Deciding.{Decided, DecidesFor, plain_job}
 use Rattle.sis_core.specs.Opens.{fate_in, has_other_writer, is_as, is_of, open_as}
 use Rattle.sis_core.specs.Session.{AreThere, FitsArea, Jobs, SessionView, ShowsWorld, session, stage_of}
 use Rattle.sis_core.specs.declared.opens.Open.{Open}
@@ -49,6 +51,9 @@ pub record Commits {T : Type 0} (r : Result T Hindrance) (old new : VolumeView) 
   pub quiet : OnOk r (new.seen.faults ≡ old.seen.faults)
   pub files : files_in new.table new.seen ≡ files_in old.table old.seen
   pub elapses : Elapses old.seen new.seen
+  pub calls : new.seen.calls ≤ old.seen.calls + 4
+  pub number : old.down ≡ None
+      → IfErr r (λ h. (at : ℕ) × (h ≡ hindrance.Down at) × (at < old.seen.calls + 4))
 
 -- a command that commits is neither refused nor hindered, and needs nothing besides
 pub record IsCommitting (w : World) (v : VolumeView) (client : ℕ) (c : Command) : Type 0 where
@@ -58,14 +63,58 @@ pub record IsCommitting (w : World) (v : VolumeView) (client : ℕ) (c : Command
   pub moves : (jobs : Jobs) → moves_data (stage_of w v jobs) client c ≡ false
   pub table : (jobs : Jobs) → changed_table (stage_of w v jobs) client c no_fresh ≡ v.table
 
+-- a commit that failed was one of what was edited
+failed_edited : {T : Type 0} (by : Hindrance) (old new : VolumeView) → old.down ≡ None
+    → Commits {T = T} (Err by) old new → old.is_changed ≡ true
+failed_edited by old new up h = edited old.is_changed refl
+  where
+    edited : (b : Bool) → old.is_changed ≡ b → old.is_changed ≡ true
+    edited true is = is
+    edited false is = absurd (different (sym (h.unchanged up is).0))
+
+-- a commit's calls are for the command that commits
+calls_committed : {T : Type 0} (r : Result T Hindrance) (s : Stage) (old new : VolumeView)
+    (client : ℕ) (c : Command) → commits c ≡ true → old.down ≡ None → Commits r old new
+    → CallsFor s old new client c
+calls_committed {T = T} r s old new client c does up h = record {
+  calls = by old.is_changed refl;
+  still = λ waits. absurd (different (sym does ∙ waits));
+  fell = λ e. fell r h;
+}
+  where
+    by : (b : Bool) → old.is_changed ≡ b
+        → new.seen.calls ≤ old.seen.calls + step_calls old s client c
+    by true is = rw (does, is) h.calls
+    by false is =
+        let same = ap (λ (v : VolumeView). v.seen.calls) (h.unchanged up is).1 in
+        rw (does, is) (omega (arith, same))
+
+    soon : (at call : ℕ) → hindrance.Down at ≡ hindrance.Down call
+        → call < old.seen.calls + 4 → at < old.seen.calls + 4
+    soon at call same below = let one : at ≡ call = cc in omega (arith, one, below)
+
+    fell : (q : Result T Hindrance) → Commits q old new
+        → IfSome new.down (FailsFor s old client c)
+    fell (Ok x) went =
+        subst (λ (o : Option ℕ). IfSome o (FailsFor s old client c)) (sym went.ok.up) tt
+    fell (Err hindered) went =
+        let failed = went.failed in
+        let number = went.number up in
+        subst (λ (o : Option ℕ). IfSome o (FailsFor s old client c)) (sym failed.2)
+        (record {
+          soon = soon failed.0 number.0 (sym failed.1 ∙ number.1) number.2;
+          edited = failed_edited hindered old new up went;
+          lacked = λ waits. absurd (different (sym does ∙ waits));
+        })
+
 -- ---- a commit failed
 
 pub commit_err : {T : Type 0} (r : Result T Hindrance) (w : World) (s : SessionView)
     (new : VolumeView) (client : ℕ) (c : Command) (by : Hindrance) → r ≡ Err by → ShowsWorld w s
     → s.volume.down ≡ None → IsTable s.volume.table → IsCommitting w s.volume client c
-    → Commits r s.volume new → Decides w s (session new s.opens) client c (reply.Hindered by)
+    → Commits r s.volume new → DecidesFor w s (session new s.opens) client c (reply.Hindered by)
 commit_err {T = T} r w s new client c by is shows up t does h =
-    subst (λ (x : Hindrance). Decides w s (session new s.opens) client c (reply.Hindered x))
+    subst (λ (x : Hindrance). DecidesFor w s (session new s.opens) client c (reply.Hindered x))
     (sym failed.1)
     (decides_same w s new client c (reply.Hindered (hindrance.Down failed.0)) shows refl table
     h.files (inr (inl (
@@ -79,10 +128,14 @@ commit_err {T = T} r w s new client c by is shows up t does h =
           unhindered =
               subst (λ (n : Need). IsUnhindered s.volume.table n) (sym (does.needs jobs))
               (no_need_free s.volume.table t);
-          cause = inl (does.waits, edited s.volume.is_changed refl);
+          edited = failed_edited by s.volume new up here;
+          cause = inl does.waits;
         };
         table = table;
         changed = ap (λ (v : VolumeView). v.is_changed) here.err;
+        needed = λ jobs.
+            calls_committed (Err by) (stage_of w s.volume jobs) s.volume new client c does.waits
+            up here;
         calls = failed.3 up;
         elapses = h.elapses;
       },
@@ -98,10 +151,6 @@ commit_err {T = T} r w s new client c by is shows up t does h =
 
     table : new.table ≡ s.volume.table
     table = ap (λ (v : VolumeView). v.table) here.err
-
-    edited : (b : Bool) → s.volume.is_changed ≡ b → s.volume.is_changed ≡ true
-    edited true e = e
-    edited false e = absurd (different (sym (here.unchanged up e).0))
 
 -- ---- all was committed
 
@@ -142,8 +191,10 @@ commit_ok {T = T} r x w v new client c answer is up t does kind not_down last ma
             ∙ sym (ap (table_as (stage_of w v jobs) client c no_fresh) kind ∙ does.table jobs);
         edits = record {
           durable = λ durable. saved;
-          only = λ is_changed. absurd (different (sym is_changed ∙ saved));
+          only = λ jobs is_changed. absurd (different (sym is_changed ∙ saved));
         };
+        needed = λ jobs.
+            calls_committed (Ok x) (stage_of w v jobs) v new client c does.waits up here;
         calls = up_well (first_byte v.table.layout) v.seen new.seen here.well;
         elapses = h.elapses;
       },
@@ -189,7 +240,7 @@ syncs w v client = record {
 pub sync_done : {T : Type 0} (r : Result T Hindrance) (x : T) (w : World) (s : SessionView)
     (new : VolumeView) (client : ℕ) → r ≡ Ok x → ShowsWorld w s → s.volume.down ≡ None
     → IsTable s.volume.table → Commits r s.volume new
-    → Decides w s (session new s.opens) client command.Sync reply.Done
+    → DecidesFor w s (session new s.opens) client command.Sync reply.Done
 sync_done r x w s new client is shows up t h =
     decides_same w s new client command.Sync reply.Done shows refl
     (committed_table r x s.volume new is h) h.files
@@ -213,13 +264,13 @@ pub end_done : {T : Type 0} (r : Result T Hindrance) (x : T) (w : World) (s : Se
     → closed ≡ length (filter (is_of client) s.opens)
     → opens ≡ filter (λ o. not (is_of client o)) s.opens → unsettled ≡ []
     → Commits r s.volume new
-    → Decides w s (session new opens) client command.End (reply.Ended closed unsettled)
+    → DecidesFor w s (session new opens) client command.End (reply.Ended closed unsettled)
 end_done r x w s new opens client closed unsettled is shows up t count left none h =
     let table = committed_table r x s.volume new is h in
     let may : MayReply w client command.End (reply.Ended closed unsettled) =
     (refl, count ∙ sym (count_shown w s client shows)) in
     subst (λ (os : List Open).
-    Decides w s (session new os) client command.End (reply.Ended closed unsettled)) (sym left)
+    DecidesFor w s (session new os) client command.End (reply.Ended closed unsettled)) (sym left)
     (record {
       decided =
           commit_ok r x w s.volume new client command.End (reply.Ended closed unsettled) is up t
@@ -277,7 +328,7 @@ pub close_done : {T : Type 0} (r : Result T Hindrance) (x : T) (w : World) (s : 
     → r ≡ Ok x → ShowsWorld w s → s.volume.down ≡ None → IsTable s.volume.table
     → open_as client number s.opens ≡ Some this → left ≡ fate_in s.opens this
     → opens ≡ filter (λ o. not (is_as client number o)) s.opens → Commits r s.volume new
-    → Decides w s (session new opens) client (command.Close number) (reply.Closed left)
+    → DecidesFor w s (session new opens) client (command.Close number) (reply.Closed left)
 close_done r x w s new opens client number this left is shows up t has left_is after h =
     let opened = is_opened w s client number this shows t has in
     let n = opened.0 in
@@ -287,7 +338,7 @@ close_done r x w s new opens client number this left is shows up t has left_is a
     let may : MayReply w client (command.Close number) (reply.Closed left) =
     (does.accepted, tt) in
     subst (λ (os : List Open).
-    Decides w s (session new os) client (command.Close number) (reply.Closed left)) (sym after)
+    DecidesFor w s (session new os) client (command.Close number) (reply.Closed left)) (sym after)
     (record {
       decided =
           commit_ok r x w s.volume new client (command.Close number) (reply.Closed left) is up t

@@ -18,7 +18,7 @@ use Rattle.sis_model.specs.declared.reply.Reply.TheVariants as reply
 use Rattle.sis_model.specs.declared.unsettled.UnsettledFile.{UnsettledFile}
 use Rattle.sis_table.specs.Content.{files_in}
 use Rattle.sis_volume.specs.View.{VolumeView}
-use Rattle.sis_core.specs.Deciding.{Answered, Decided, Decides, plain_job}
+use Rattle.sis_core.specs.Deciding.{Answered, Decided, DecidesFor, plain_job}
 use Rattle.sis_core.specs.Session.{FitsArea, Jobs, SessionView, stage_of}
 use Rattle.sis_core.proofs.Operated.{different, if_some}
 
@@ -30,7 +30,7 @@ record TellsMuch (w : World) (v : VolumeView) (client : ℕ) (c : Command) : Typ
   table : (jobs : Jobs) (fresh : Fresh)
       → changed_table (stage_of w v jobs) client c fresh ≡ v.table
   memory : takes_memory c ≡ true
-  edits : edits_table c ≡ false
+  edits : (jobs : Jobs) → edits_table (stage_of w v jobs) client c ≡ false
   waits : commits c ≡ false
 
 read_tells : (w : World) (v : VolumeView) (client : ℕ) (c : Command) (bytes : List ℕ)
@@ -41,7 +41,7 @@ read_tells w v client (command.Read number at len) bytes is = record {
   leaves = refl;
   table = λ jobs fresh. refl;
   memory = refl;
-  edits = refl;
+  edits = λ jobs. refl;
   waits = refl;
 }
 read_tells w v client (command.Write number at more) bytes is = absurd cc
@@ -73,7 +73,7 @@ names_tell w v client (command.List after) names more is = record {
   leaves = refl;
   table = λ jobs fresh. refl;
   memory = refl;
-  edits = refl;
+  edits = λ jobs. refl;
   waits = refl;
 }
 names_tell w v client (command.Tell name) names more is = absurd is
@@ -136,28 +136,30 @@ short_answered w old new client c r fresh much a = record {
       ∙ much.tells.table jobs fresh;
   edits = record {
     durable = λ e. absurd (different (sym e ∙ hindered_durable c hindrance.Memory));
-    only = λ is_changed. inl (before (a.edits.only is_changed));
+    only = λ jobs is_changed. inl (before jobs (a.edits.only jobs is_changed));
   };
+  needed = a.needed;
   calls = a.calls;
   elapses = a.elapses;
 }
   where
-    before : (old.is_changed ≡ true) ⊎ ((kind_of r ≡ IsDone) × (edits_table c ≡ true))
+    before : (jobs : Jobs) → (old.is_changed ≡ true)
+        ⊎ ((kind_of r ≡ IsDone) × (edits_table (stage_of w old jobs) client c ≡ true))
         → old.is_changed ≡ true
-    before (inl was) = was
-    before (inr edits) = absurd (different (sym edits.1 ∙ much.tells.edits))
+    before jobs (inl was) = was
+    before jobs (inr edits) = absurd (different (sym edits.1 ∙ much.tells.edits jobs))
 
 nobody : Jobs
 nobody client = None
 
 -- A reply that holds memory can give way to want of memory.
 pub short_decides : (w : World) (old new : SessionView) (client : ℕ) (c : Command) (r : Reply)
-    → FitsArea new.volume.table → holds_memory r ≡ true → Decides w old new client c r
-    → Decides w old new client c (reply.Hindered hindrance.Memory)
+    → FitsArea new.volume.table → holds_memory r ≡ true → DecidesFor w old new client c r
+    → DecidesFor w old new client c (reply.Hindered hindrance.Memory)
 short_decides w old new client c r area much d = by d.decided
   where
     by : Decided w old.volume new.volume client c r
-        → Decides w old new client c (reply.Hindered hindrance.Memory)
+        → DecidesFor w old new client c (reply.Hindered hindrance.Memory)
     by (inl answered) =
         let a = answered.1 in
         let h : HoldsMuch w old.volume client c r = holds w old.volume client c r a.may much
@@ -183,9 +185,9 @@ short_decides w old new client c r area much d = by d.decided
 pub copied_decides : (w : World) (old new : SessionView) (client : ℕ) (c : Command) (r given : Reply)
     → FitsArea new.volume.table
     → (given ≡ r) ⊎ ((holds_memory r ≡ true) × (given ≡ reply.Hindered hindrance.Memory))
-    → Decides w old new client c r → Decides w old new client c given
+    → DecidesFor w old new client c r → DecidesFor w old new client c given
 copied_decides w old new client c r given area (inl same) d =
-    subst (λ (x : Reply). Decides w old new client c x) (sym same) d
+    subst (λ (x : Reply). DecidesFor w old new client c x) (sym same) d
 copied_decides w old new client c r given area (inr short) d =
-    subst (λ (x : Reply). Decides w old new client c x) (sym short.1)
+    subst (λ (x : Reply). DecidesFor w old new client c x) (sym short.1)
     (short_decides w old new client c r area short.0 d)

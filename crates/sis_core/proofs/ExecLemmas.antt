@@ -1,14 +1,17 @@
 -- Lines that are taken from the end of a reversed list, and each client's end.
-use Rattle.std.proofs.Common.{◌≡◌, ◌≢◌, ℕ, zero, suc, ◌+◌, ◌<◌, ◌≤◌, Bool, true, false, List, [], ◌∷◌, ◌++◌, length, Option, None, refl, sym, ap, subst, ◌∙◌, arith, append_assoc}
+use Rattle.std.proofs.Common.{◌≡◌, ◌≢◌, ℕ, zero, suc, ◌+◌, ◌<◌, ◌≤◌, Bool, true, false, List, [], ◌∷◌, ◌++◌, length, Option, None, refl, sym, ap, subst, ◌∙◌, arith, append_assoc, append-nil}
 use Rattle.std.specs.Prelude.{All, reverse, replicate, slice_set, slice_index_or, ◌==◌, if◌then◌else◌}
 use Rattle.std.specs.List.{list_any}
-use Rattle.std.proofs.lemmas.List.{reverse-append}
+use Rattle.std.proofs.lemmas.List.{reverse-append, reverse-reverse}
 use Rattle.std.proofs.lemmas.List.Elements.{All-take}
 use Rattle.std.proofs.Math.Seq.{take-append_seam}
 use Rattle.sis_model.specs.Order.{end_of, exec_order}
+use Rattle.sis_model.specs.declared.history.Entry.{Entry}
 use Rattle.sis_model.specs.declared.history.Line.{Line}
 use Rattle.sis_core.specs.declared.job.Job.{Job}
 use Rattle.sis_core.specs.Jobs.{AreIdle, IsClient}
+use Rattle.sis_core.specs.Turns.{AddsLines}
+use Rattle.sis_core.proofs.AddLemmas.{adds_as, adds_none, adds_then}
 use Rattle.sis_core.proofs.LineLemmas.{AreCounted, commands_mine, counts_less, has_lines}
 
 -- ---- a job that comes and goes
@@ -31,6 +34,22 @@ idle_again old mid new client j idle begun ended =
     ∙ set_twice old client j None
     ∙ ap (λ (js : List (Option Job)). slice_set js client None) idle
     ∙ set_same 17 client None
+
+-- ---- the lines at the start
+
+all_again : (lines given : List Line) → lines ≡ reverse given → reverse lines ≡ given
+all_again lines given is = ap reverse is ∙ reverse-reverse given
+
+pub counted_all : (counts : List ℕ) (lines given shown : List Line) → lines ≡ reverse given
+    → shown ≡ given → AreCounted counts shown → AreCounted counts (reverse lines)
+counted_all counts lines given shown is same counted =
+    subst (AreCounted counts) (same ∙ sym (all_again lines given is)) counted
+
+pub room_all : (lines given : List Line) (spare : ℕ) → lines ≡ reverse given
+    → length (exec_order given) ≤ spare → length (exec_order (reverse lines)) ≤ spare
+room_all lines given spare is room =
+    subst (λ (ls : List Line). length (exec_order ls) ≤ spare) (sym (all_again lines given is))
+    room
 
 -- ---- the line that is taken
 
@@ -106,7 +125,7 @@ taken_order lines rest l has is has_is =
     ∙ ap (λ (b : Bool). if b then l ∷ exec_order (reverse rest)
     else l ∷ end_of l.client ∷ exec_order (reverse rest)) has_is
 
-pub order_more : (lines rest before now : List Line) (l : Line) (all : List Line)
+order_more : (lines rest before now : List Line) (l : Line) (all : List Line)
     → lines ≡ rest ++ l ∷ [] → list_any (λ m. m.client == l.client) (reverse rest) ≡ true
     → now ≡ before ++ l ∷ [] → before ++ exec_order (reverse lines) ≡ all
     → now ++ exec_order (reverse rest) ≡ all
@@ -115,7 +134,7 @@ order_more lines rest before now l all is more next h =
     ∙ append_assoc before (l ∷ []) (exec_order (reverse rest))
     ∙ ap (λ (ls : List Line). before ++ ls) (sym (taken_order lines rest l true is more)) ∙ h
 
-pub order_last : (lines rest before mid now : List Line) (l : Line) (all : List Line)
+order_last : (lines rest before mid now : List Line) (l : Line) (all : List Line)
     → lines ≡ rest ++ l ∷ [] → list_any (λ m. m.client == l.client) (reverse rest) ≡ false
     → mid ≡ before ++ l ∷ [] → now ≡ mid ++ end_of l.client ∷ []
     → before ++ exec_order (reverse lines) ≡ all
@@ -126,6 +145,54 @@ order_last lines rest before mid now l all is last one two h =
     ∙ ap (λ (ls : List Line). ls ++ end_of l.client ∷ exec_order (reverse rest)) one
     ∙ append_assoc before (l ∷ []) (end_of l.client ∷ exec_order (reverse rest))
     ∙ ap (λ (ls : List Line). before ++ ls) (sym (taken_order lines rest l false is last)) ∙ h
+
+-- The entries of some first lines were added, and with the lines that are left they are all.
+pub record RanFront (old new : List Entry) (lines all : List Line) : Type 0 where
+  pub front : List Line
+  pub adds : AddsLines old new front
+  pub order : front ++ exec_order (reverse lines) ≡ all
+
+pub front_none : (es : List Entry) (lines given : List Line) → lines ≡ reverse given
+    → RanFront es es lines (exec_order given)
+front_none es lines given is = record {
+  front = [];
+  adds = adds_none es;
+  order = ap exec_order (all_again lines given is);
+}
+
+pub front_all : (old new : List Entry) (lines all : List Line) → lines ≡ []
+    → RanFront old new lines all → AddsLines old new all
+front_all old new lines all none ran =
+    adds_as old new ran.front all
+    (sym (append-nil ran.front)
+    ∙ ap (λ (ls : List Line). ran.front ++ exec_order (reverse ls)) (sym none) ∙ ran.order)
+    ran.adds
+
+pub front_more : (old before now : List Entry) (lines rest : List Line) (l : Line)
+    (all : List Line) → lines ≡ rest ++ l ∷ []
+    → list_any (λ m. m.client == l.client) (reverse rest) ≡ true
+    → AddsLines before now (l ∷ []) → RanFront old before lines all → RanFront old now rest all
+front_more old before now lines rest l all is more one ran = record {
+  front = ran.front ++ l ∷ [];
+  adds = adds_then old before now ran.front (l ∷ []) ran.adds one;
+  order =
+      order_more lines rest ran.front (ran.front ++ l ∷ []) l all is more refl ran.order;
+}
+
+pub front_last : (old before mid now : List Entry) (lines rest : List Line) (l : Line)
+    (all : List Line) → lines ≡ rest ++ l ∷ []
+    → list_any (λ m. m.client == l.client) (reverse rest) ≡ false
+    → AddsLines before mid (l ∷ []) → AddsLines mid now (end_of l.client ∷ [])
+    → RanFront old before lines all → RanFront old now rest all
+front_last old before mid now lines rest l all is last one two ran = record {
+  front = (ran.front ++ l ∷ []) ++ end_of l.client ∷ [];
+  adds =
+      adds_then old mid now (ran.front ++ l ∷ []) (end_of l.client ∷ [])
+      (adds_then old before mid ran.front (l ∷ []) ran.adds one) two;
+  order =
+      order_last lines rest ran.front (ran.front ++ l ∷ [])
+      ((ran.front ++ l ∷ []) ++ end_of l.client ∷ []) l all is last refl refl ran.order;
+}
 
 pub room_more : (lines rest : List Line) (l : Line) (spare now : ℕ) → lines ≡ rest ++ l ∷ []
     → list_any (λ m. m.client == l.client) (reverse rest) ≡ true

@@ -1,6 +1,6 @@
 -- The jobs of the clients, where one of them changed.
 use Rattle.std.proofs.Common.{◌≡◌, ◌≢◌, ℕ, zero, suc, ◌+◌, ◌<◌, ◌≤◌, Bool, true, false, List, [], ◌∷◌, length, take, refl, sym, ap, ◌∙◌, arith}
-use Rattle.std.specs.Prelude.{slice_set, slice_index_or, ◌==◌, is_some, if◌then◌else◌, Option, None, Some, replicate}
+use Rattle.std.specs.Prelude.{slice_set, slice_index_or, nat_lt, ◌==◌, is_some, if◌then◌else◌, Option, None, Some, replicate}
 use Rattle.std.proofs.lemmas.List.{length-set, get_or-set_other, get_or_default}
 use Rattle.std.proofs.lemmas.Grind.{get_or-set_at}
 use Rattle.std.proofs.lemmas.Bool.Decides.{nat_tests}
@@ -10,7 +10,7 @@ use Rattle.sis_history.specs.Rows.{without_looks}
 use Rattle.sis_model.specs.declared.command.Command.{Command}
 use Rattle.sis_core.specs.declared.job.Job.{Job}
 use Rattle.sis_core.specs.declared.job.Job.TheVariants as job
-use Rattle.sis_core.specs.Jobs.{HasJobs, count_jobs}
+use Rattle.sis_core.specs.Jobs.{HasJobs, IsClient, count_jobs}
 use Rattle.sis_core.specs.View.{job_of, noted}
 
 -- ---- how many there are
@@ -93,6 +93,23 @@ jobs_set jobs client j h low lt serves = record {
         serves c (sym (job_here jobs client other j (omega (arith, lt, h.size)) e) ∙ is)
     by other c is false e =
         h.served other c (sym (job_there jobs client other j e) ∙ is)
+
+-- who has a command in hand is a client
+past_jobs : (jobs : List (Option Job)) (i : ℕ) → length jobs ≤ i → job_of jobs i ≡ None
+past_jobs [] i le = refl
+past_jobs (j ∷ js) zero le = absurd (omega arith)
+past_jobs (j ∷ js) (suc i) le = past_jobs js i (omega arith)
+
+pub has_client : (jobs : List (Option Job)) (client : ℕ) → HasJobs jobs
+    → job_of jobs client ≢ None → IsClient client
+has_client jobs zero h some = absurd (some h.nobody)
+has_client jobs (suc n) h some = (omega arith, by (nat_lt (suc n) 17) refl)
+  where
+    by : (b : Bool) → nat_lt (suc n) 17 ≡ b → suc n ≤ 16
+    by true is = grind (arith, nat_tests, is)
+    by false is =
+        let past : 17 ≤ suc n = grind (arith, nat_tests, is) in
+        absurd (some (past_jobs jobs (suc n) (omega (arith, past, h.size))))
 
 -- nobody has one
 pub idle_job : (n client : ℕ) → job_of (replicate n None) client ≡ None

@@ -1,6 +1,8 @@
+pub mod AddLemmas
 pub mod Changed
 pub mod Committed
 pub mod Copied
+pub mod CostLemmas
 pub mod ExecLemmas
 pub mod JobLemmas
 pub mod LineLemmas
@@ -8,6 +10,7 @@ pub mod Made
 pub mod Named
 pub mod Opened
 pub mod Openings
+pub mod OpensIndex
 pub mod OpensLemmas
 pub mod Operated
 pub mod Rows

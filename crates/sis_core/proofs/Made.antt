@@ -1,5 +1,5 @@
 -- What puts, removals and renames are answered.
-use Rattle.std.proofs.Common.{◌≡◌, ℕ, ◌+◌, ◌<◌, ◌≤◌, ◌||◌, Bool, true, false, List, [], length, Option, None, Some, is_some, Result, Ok, Err, refl, sym, ap, subst, ◌∙◌, arith}
+use Rattle.std.proofs.Common.{◌≡◌, inl, ℕ, ◌+◌, ◌<◌, ◌≤◌, ◌||◌, Bool, true, false, List, [], length, Option, None, Some, is_some, Result, Ok, Err, refl, sym, ap, subst, ◌∙◌, arith}
 use Rattle.std.specs.Prelude.{nat_lt, unwrap_or}
 use Rattle.std.specs.FinMap.{insert, remove}
 use Rattle.std.specs.Option.{option_map}
@@ -22,7 +22,7 @@ use Rattle.sis_table.specs.declared.node.Node.{Node}
 use Rattle.sis_volume.specs.View.{VolumeView}
 use Rattle.sis_copyclose.specs.Changed.{IsRenamed, IsWithFile, IsWithoutFile, with_new_name}
 use Rattle.sis_copyclose.specs.Operating.{Operates}
-use Rattle.sis_core.specs.Deciding.{Decides}
+use Rattle.sis_core.specs.Deciding.{DecidesFor}
 use Rattle.sis_core.specs.Opens.{has_file}
 use Rattle.sis_core.specs.Session.{SessionView, ShowsWorld, session}
 use Rattle.sis_core.proofs.Named.{IsFound, found_in, found_there, if_there, open_in_world, renamed_keeps, there_if, with_file_keeps, without_file_keeps}
@@ -33,7 +33,7 @@ use Rattle.sis_core.proofs.Operated.{KeepsOpens, Suits, operated_err, operated_o
 module _ (w : World) (s : SessionView) (client : ℕ) (name bytes : List ℕ) (shows : ShowsWorld w s)
     (up : s.volume.down ≡ None) where
   pub put_long : 65536 < length bytes
-      → Decides w s (session s.volume s.opens) client (command.Put name bytes)
+      → DecidesFor w s (session s.volume s.opens) client (command.Put name bytes)
       reply.InvalidParameter
   put_long long =
       refused w s client (command.Put name bytes) reply.InvalidParameter shows up
@@ -42,7 +42,7 @@ module _ (w : World) (s : SessionView) (client : ℕ) (name bytes : List ℕ) (s
 
   module _ (short : length bytes ≤ 65536) where
     pub put_store : is_store_name name ≡ true
-        → Decides w s (session s.volume s.opens) client (command.Put name bytes)
+        → DecidesFor w s (session s.volume s.opens) client (command.Put name bytes)
         reply.AccessDenied
     put_store store =
         let refusal : refusal_of w client (command.Put name bytes) ≡ Some reply.AccessDenied =
@@ -53,7 +53,7 @@ module _ (w : World) (s : SessionView) (client : ℕ) (name bytes : List ℕ) (s
     module _ (user : is_store_name name ≡ false) (found : Option ℕ)
         (e : found ≡ option_map id_of (node_named s.volume.table name)) where
       pub put_taken : is_some found ≡ true
-          → Decides w s (session s.volume s.opens) client (command.Put name bytes)
+          → DecidesFor w s (session s.volume s.opens) client (command.Put name bytes)
           reply.Collision
       put_taken taken =
           let there = found_in w s name found shows e ∙ taken in
@@ -77,8 +77,8 @@ module _ (w : World) (s : SessionView) (client : ℕ) (name bytes : List ℕ) (s
             accepted = rw (le-ltb 65536 (length bytes) short, user, none) refl;
             need_is = λ jobs. refl;
             moves = λ jobs. ap (nat_lt 0) same;
+            reads_is = λ jobs. refl;
             waits = refl;
-            edits = refl;
             memory = refl;
             leads = λ next made.
                 (record { places = made.0 }, made.1, λ jobs. made.2);
@@ -88,20 +88,21 @@ module _ (w : World) (s : SessionView) (client : ℕ) (name bytes : List ℕ) (s
           (new : VolumeView) → is_some found ≡ false
           → Operates (put_need (length bytes)) Leads change 0 result s.volume new
           → result ≡ Err by
-          → Decides w s (session new s.opens) client (command.Put name bytes)
+          → DecidesFor w s (session new s.opens) client (command.Put name bytes)
           (reply.Hindered by)
       put_failed result by new free left err =
           operated_err w s client (command.Put name bytes) (put_need (length bytes)) Leads change 0
-          (put_suits free) shows up result by new left err
+          (put_suits free) shows up result by new left err (λ jobs. inl refl)
 
       pub put_done : {T : Type 0} (result : Result T Hindrance) (x : T) (new : VolumeView)
           → is_some found ≡ false
           → Operates (put_need (length bytes)) Leads change 0 result s.volume new
           → result ≡ Ok x
-          → Decides w s (session new s.opens) client (command.Put name bytes) reply.Done
+          → DecidesFor w s (session new s.opens) client (command.Put name bytes) reply.Done
       put_done result x new free left ok =
           operated_ok w s client (command.Put name bytes) (put_need (length bytes)) Leads change 0
-          (put_suits free) shows up result x new left ok refl (λ files same. ap change same) refl
+          (put_suits free) shows up result x new left ok (λ jobs. inl refl) refl
+          (λ files same. ap change same) refl
           (λ next made.
           subst
           (λ (v : VolumeTable). KeepsOpens s.volume.table v s.opens)
@@ -131,7 +132,7 @@ found_not found is = ap (λ (o : Option ℕ). is_some o) is
 module _ (w : World) (s : SessionView) (client : ℕ) (name : List ℕ) (shows : ShowsWorld w s)
     (up : s.volume.down ≡ None) where
   pub remove_store : is_store_name name ≡ true
-      → Decides w s (session s.volume s.opens) client (command.Remove name) reply.AccessDenied
+      → DecidesFor w s (session s.volume s.opens) client (command.Remove name) reply.AccessDenied
   remove_store store =
       let refusal : refusal_of w client (command.Remove name) ≡ Some reply.AccessDenied =
       rw store refl in
@@ -141,7 +142,7 @@ module _ (w : World) (s : SessionView) (client : ℕ) (name : List ℕ) (shows :
   module _ (user : is_store_name name ≡ false) (found : Option ℕ)
       (e : found ≡ option_map id_of (node_named s.volume.table name)) where
     pub remove_missing : found ≡ None
-        → Decides w s (session s.volume s.opens) client (command.Remove name) reply.NotFound
+        → DecidesFor w s (session s.volume s.opens) client (command.Remove name) reply.NotFound
     remove_missing missing =
         let none = found_in w s name found shows e ∙ found_not found missing in
         let refusal : refusal_of w client (command.Remove name) ≡ Some reply.NotFound =
@@ -155,7 +156,7 @@ module _ (w : World) (s : SessionView) (client : ℕ) (name : List ℕ) (shows :
       there = found_in w s name found shows e ∙ found_some found id is
 
       pub remove_in_use : has_file id s.opens ≡ true
-          → Decides w s (session s.volume s.opens) client (command.Remove name) reply.InUse
+          → DecidesFor w s (session s.volume s.opens) client (command.Remove name) reply.InUse
       remove_in_use opened =
           let test : is_open w name ≡ true = open_in_world w s name id shows t f ∙ opened in
           let refusal : refusal_of w client (command.Remove name) ≡ Some reply.InUse =
@@ -171,8 +172,8 @@ module _ (w : World) (s : SessionView) (client : ℕ) (name : List ℕ) (shows :
             accepted = rw (user, there, test) refl;
             need_is = λ jobs. refl;
             moves = λ jobs. refl;
+            reads_is = λ jobs. refl;
             waits = refl;
-            edits = refl;
             memory = refl;
             leads = λ next same. (
               record { places = [] },
@@ -211,19 +212,19 @@ module _ (w : World) (s : SessionView) (client : ℕ) (name : List ℕ) (shows :
       pub remove_failed : {T : Type 0} (result : Result T Hindrance) (by : Hindrance)
           (new : VolumeView) → has_file id s.opens ≡ false → Removes result new
           → result ≡ Err by
-          → Decides w s (session new s.opens) client (command.Remove name) (reply.Hindered by)
+          → DecidesFor w s (session new s.opens) client (command.Remove name) (reply.Hindered by)
       remove_failed result by new closed left err =
           operated_err w s client (command.Remove name) no_need
           (IsWithoutFile s.volume.table id) (λ files. remove files name) 0 (remove_suits closed)
-          shows up result by new (removes result new left) err
+          shows up result by new (removes result new left) err (λ jobs. inl refl)
 
       pub remove_done : {T : Type 0} (result : Result T Hindrance) (x : T) (new : VolumeView)
           → has_file id s.opens ≡ false → Removes result new → result ≡ Ok x
-          → Decides w s (session new s.opens) client (command.Remove name) reply.Done
+          → DecidesFor w s (session new s.opens) client (command.Remove name) reply.Done
       remove_done result x new closed left ok =
           operated_ok w s client (command.Remove name) no_need
           (IsWithoutFile s.volume.table id) (λ files. remove files name) 0 (remove_suits closed)
-          shows up result x new (removes result new left) ok refl
+          shows up result x new (removes result new left) ok (λ jobs. inl refl) refl
           (λ files same. ap (λ (fs : Files). remove fs name) same) refl
           (λ next same.
           subst
@@ -246,7 +247,7 @@ none_true a b no_a no_b = ap (λ (x : Bool). x || b) no_a ∙ no_b
 module _ (w : World) (s : SessionView) (client : ℕ) (old new : List ℕ) (shows : ShowsWorld w s)
     (up : s.volume.down ≡ None) where
   pub rename_store : (is_store_name old || is_store_name new) ≡ true
-      → Decides w s (session s.volume s.opens) client (command.Rename old new)
+      → DecidesFor w s (session s.volume s.opens) client (command.Rename old new)
       reply.AccessDenied
   rename_store store =
       let refusal : refusal_of w client (command.Rename old new) ≡ Some reply.AccessDenied =
@@ -257,7 +258,7 @@ module _ (w : World) (s : SessionView) (client : ℕ) (old new : List ℕ) (show
   module _ (users : (is_store_name old || is_store_name new) ≡ false) (found : Option ℕ)
       (e : found ≡ option_map id_of (node_named s.volume.table old)) where
     pub rename_missing : found ≡ None
-        → Decides w s (session s.volume s.opens) client (command.Rename old new) reply.NotFound
+        → DecidesFor w s (session s.volume s.opens) client (command.Rename old new) reply.NotFound
     rename_missing missing =
         let none = found_in w s old found shows e ∙ found_not found missing in
         let refusal : refusal_of w client (command.Rename old new) ≡ Some reply.NotFound =
@@ -272,7 +273,7 @@ module _ (w : World) (s : SessionView) (client : ℕ) (old new : List ℕ) (show
       old_there = found_in w s old found shows e ∙ found_some found id is
 
       pub rename_taken : is_some taken ≡ true
-          → Decides w s (session s.volume s.opens) client (command.Rename old new)
+          → DecidesFor w s (session s.volume s.opens) client (command.Rename old new)
           reply.Collision
       rename_taken there =
           let new_there = found_in w s new taken shows e_new ∙ there in
@@ -286,7 +287,7 @@ module _ (w : World) (s : SessionView) (client : ℕ) (old new : List ℕ) (show
         new_free = found_in w s new taken shows e_new ∙ free
 
         pub rename_in_use : has_file id s.opens ≡ true
-            → Decides w s (session s.volume s.opens) client (command.Rename old new)
+            → DecidesFor w s (session s.volume s.opens) client (command.Rename old new)
             reply.InUse
         rename_in_use opened =
             let test : is_open w old ≡ true = open_in_world w s old id shows t f ∙ opened in
@@ -304,8 +305,8 @@ module _ (w : World) (s : SessionView) (client : ℕ) (old new : List ℕ) (show
               accepted = rw (users, old_there, new_free, test) refl;
               need_is = λ jobs. refl;
               moves = λ jobs. refl;
+              reads_is = λ jobs. refl;
               waits = refl;
-              edits = refl;
               memory = refl;
               leads = λ next same. (
                 record { places = [] },
@@ -344,21 +345,21 @@ module _ (w : World) (s : SessionView) (client : ℕ) (old new : List ℕ) (show
         pub rename_failed : {T : Type 0} (result : Result T Hindrance) (by : Hindrance)
             (after : VolumeView) → has_file id s.opens ≡ false → Renames result after
             → result ≡ Err by
-            → Decides w s (session after s.opens) client (command.Rename old new)
+            → DecidesFor w s (session after s.opens) client (command.Rename old new)
             (reply.Hindered by)
         rename_failed result by after closed left err =
             operated_err w s client (command.Rename old new) no_need
             (IsRenamed s.volume.table id new) (with_new_name old new) 0 (rename_suits closed)
-            shows up result by after (renames result after left) err
+            shows up result by after (renames result after left) err (λ jobs. inl refl)
 
         pub rename_done : {T : Type 0} (result : Result T Hindrance) (x : T)
             (after : VolumeView) → has_file id s.opens ≡ false → Renames result after
             → result ≡ Ok x
-            → Decides w s (session after s.opens) client (command.Rename old new) reply.Done
+            → DecidesFor w s (session after s.opens) client (command.Rename old new) reply.Done
         rename_done result x after closed left ok =
             operated_ok w s client (command.Rename old new) no_need
             (IsRenamed s.volume.table id new) (with_new_name old new) 0 (rename_suits closed)
-            shows up result x after (renames result after left) ok refl
+            shows up result x after (renames result after left) ok (λ jobs. inl refl) refl
             (λ files same. ap (λ (fs : Files). with_new_name old new fs) same) refl
             (λ next same.
             subst

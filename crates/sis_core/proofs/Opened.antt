@@ -14,7 +14,7 @@ use Rattle.sis_history.specs.Causes.{moves_data}
 use Rattle.sis_history.specs.Changed.{Fresh, table_as}
 use Rattle.sis_history.specs.Durable.{makes_durable}
 use Rattle.sis_history.specs.Entering.{comes_first, is_down}
-use Rattle.sis_history.specs.Needs.{reads_in}
+use Rattle.sis_history.specs.Needs.{reads_in, reads_of}
 use Rattle.sis_history.specs.Replies.{Fits}
 use Rattle.sis_history.specs.Stage.{node_opened}
 use Rattle.sis_history.proofs.ExactLemmas.{no_need_free}
@@ -44,10 +44,11 @@ use Rattle.sis_table.proofs.ChangeLemmas.{own_names}
 use Rattle.sis_table.proofs.FileLemmas.{same_units, some_is}
 use Rattle.sis_view.proofs.CallerLemmas.{up_reading}
 use Rattle.sis_volume.specs.View.{VolumeView}
-use Rattle.sis_core.specs.Deciding.{Decides, plain_job}
+use Rattle.sis_core.specs.Deciding.{DecidesFor, plain_job}
 use Rattle.sis_core.specs.Opens.{is_as, open_as}
 use Rattle.sis_core.specs.Session.{AreThere, Jobs, SessionView, ShowsWorld, name_by, open_in, session, stage_of}
 use Rattle.sis_core.specs.declared.opens.Open.{Open}
+use Rattle.sis_core.proofs.CostLemmas.{calls_read}
 use Rattle.sis_core.proofs.Operated.{decides_same, if_some, refused}
 
 -- ---- opens of the world, and of the session
@@ -239,7 +240,7 @@ pub unopened : (w : World) (s : SessionView) (client number : ℕ) (c : Command)
     → ShowsWorld w s → s.volume.down ≡ None → o ≡ open_as client number s.opens → o ≡ None
     → makes_durable c reply.InvalidOpen ≡ false
     → (open_of w client number ≡ None → refusal_of w client c ≡ Some reply.InvalidOpen)
-    → Decides w s s client c reply.InvalidOpen
+    → DecidesFor w s s client c reply.InvalidOpen
 unopened w s client number c o shows up is none passing refusal =
     let why = refusal (none_opened w s client number o shows is none) in
     refused w s client c reply.InvalidOpen shows up why refl refl passing why
@@ -270,11 +271,13 @@ module _ (w : World) (s : SessionView) (new : VolumeView) (client number : ℕ) 
       is.open'
       ∙ ap (λ (b : Bool). or_refused b reply.InvalidParameter None) test
 
+  reads : (jobs : Jobs) → reads_of (stage_of w old jobs) client number range ≡ reads_in range n
+  reads jobs =
+      ap (λ (m : Option Node). unwrap_or (option_map (reads_in range) m) 0) (is.found jobs)
+
   moves : (jobs : Jobs)
       → moves_data (stage_of w old jobs) client reading ≡ nat_lt 0 (reads_in range n)
-  moves jobs =
-      ap (λ (m : Option Node). nat_lt 0 (unwrap_or (option_map (reads_in range) m) 0))
-      (is.found jobs)
+  moves jobs = ap (nat_lt 0) (reads jobs)
 
   -- a command that only looked leaves files and opens as they were
   looked : {T : Type 0} (result : Result T Hindrance) (r : Reply)
@@ -287,7 +290,7 @@ module _ (w : World) (s : SessionView) (new : VolumeView) (client number : ℕ) 
       old.table.layout
       → Fits (stage_of w old jobs) nothing (stage_of next new later) client (plain_job reading) r)
       → (kind_of r ≡ IsDone → new.seen.faults ≡ old.seen.faults)
-      → Decides w s (session new s.opens) client reading r
+      → DecidesFor w s (session new s.opens) client reading r
   looked result r looks not_down last same_world same appears told fits quiet =
       let table : new.table ≡ old.table = ap (λ (v : VolumeView). v.table) looks.same in
       let files : files_in new.table new.seen ≡ files_in old.table old.seen =
@@ -310,9 +313,12 @@ module _ (w : World) (s : SessionView) (new : VolumeView) (client number : ℕ) 
           table = λ jobs. table ∙ sym (same jobs);
           edits = record {
             durable = λ durable. absurd cc;
-            only = λ changed. inl (sym (ap (λ (v : VolumeView). v.is_changed) looks.same) ∙
+            only = λ jobs changed. inl (sym (ap (λ (v : VolumeView). v.is_changed) looks.same) ∙
                 changed);
           };
+          needed = λ jobs.
+              calls_read (stage_of w old jobs) client number range n result old new (reads jobs)
+              looks;
           calls = up_reading (first_byte old.table.layout) (reads_in range n) old.seen new.seen
               looks.reads;
           elapses = looks.reads.elapses;
@@ -322,7 +328,7 @@ module _ (w : World) (s : SessionView) (new : VolumeView) (client number : ℕ) 
   pub read_failed : {T : Type 0} (result : Result T Hindrance) (by : Hindrance)
       → OnlyLooks (reads_in range n) result old new
       → HindersReading (reads_in range n) old.seen new.seen by
-      → Decides w s (session new s.opens) client reading (reply.Hindered by)
+      → DecidesFor w s (session new s.opens) client reading (reply.Hindered by)
   read_failed result hindrance.Memory looks cause =
       looked result (reply.Hindered hindrance.Memory) looks refl refl refl (λ jobs. refl)
       (inr read_accepted) (if_some _ new.seen.told (inr read_accepted))
@@ -364,7 +370,7 @@ module _ (w : World) (s : SessionView) (new : VolumeView) (client number : ℕ) 
       → OnlyLooks (reads_in range n) result old new
       → Appends old.table n range (live_of old.seen) before after → before ≡ []
       → new.seen.faults ≡ old.seen.faults
-      → Decides w s (session new s.opens) client reading (reply.Read after)
+      → DecidesFor w s (session new s.opens) client reading (reply.Read after)
   read_done result before after looks appends none quiet =
       let all : after ≡ appends.bytes =
       appends.appended ∙ ap (λ (b : List ℕ). b ++ appends.bytes) none in
@@ -401,7 +407,7 @@ module _ (w : World) (s : SessionView) (new : VolumeView) (client number : ℕ) 
 pub read_too_far : (w : World) (s : SessionView) (client number : ℕ) (range : ByteRange) (o : Open)
     (n : Node) → ShowsWorld w s → s.volume.down ≡ None → IsOpened w s client number o n
     → (65536 < range.len) ⊎ ((range.len ≤ 65536) × (68719476736 < range.at))
-    → Decides w s s client (asked.Read number range.at range.len) reply.InvalidParameter
+    → DecidesFor w s s client (asked.Read number range.at range.len) reply.InvalidParameter
 read_too_far w s client number range o n shows up is far =
     refused w s client (asked.Read number range.at range.len) reply.InvalidParameter shows up why
     refl refl refl why (λ fresh jobs later next. tt)

@@ -1,11 +1,12 @@
 -- Opens of files in the world, and in a session.
-use Rattle.std.proofs.Common.{◌≡◌, ℕ, zero, suc, ◌+◌, ◌-◌, ◌<◌, ◌≤◌, ◌||◌, ◌&&◌, Bool, true, false, not, cond, is_some, List, [], ◌∷◌, ◌++◌, length, map, filter, None, Some, Option, refl, sym, ap, subst, ◌∙◌, arith}
+use Rattle.std.proofs.Common.{eqb, ◌≡◌, ℕ, zero, suc, ◌+◌, ◌-◌, ◌<◌, ◌≤◌, ◌||◌, ◌&&◌, Bool, true, false, not, cond, is_some, List, [], ◌∷◌, ◌++◌, length, map, filter, None, Some, Option, refl, sym, ap, subst, ◌∙◌, arith}
 use Rattle.std.specs.Prelude.{find, nat_le, unwrap_or, ◌==◌}
 use Rattle.std.specs.List.{AllByRecursion, list_any, range_with_len}
 use Rattle.std.specs.Option.{option_map}
 use Rattle.std.proofs.Math.Path.{fun_ext}
 use Rattle.std.proofs.lemmas.Bool.Decides.{nat_tests}
 use Rattle.std.proofs.lemmas.List.{length-map, map-append}
+use Rattle.std.proofs.lemmas.Map.Steps.{le-length_from_below}
 use Rattle.sis_history.proofs.NamedLemmas.{is_named}
 use Rattle.sis_history.specs.Stage as history
 use Rattle.sis_model.specs.Answer.{MayReply, refusal_of}
@@ -17,12 +18,13 @@ use Rattle.sis_name.specs.Files.{same_name}
 use Rattle.sis_name.specs.Units.{is_store_name}
 use Rattle.sis_table.specs.Volume.{VolumeTable, IsTable, id_of, node_named, node_with}
 use Rattle.sis_table.specs.declared.node.Node.{Node}
-use Rattle.sis_core.specs.Deciding.{Decides}
-use Rattle.sis_core.specs.Opens.{free_number, has_other_writer, is_as, is_of}
+use Rattle.sis_core.specs.Deciding.{DecidesFor}
+use Rattle.sis_core.specs.Opens.{free_number, has_other_writer, is_as, is_of, open_as}
 use Rattle.sis_core.specs.Session.{AreThere, SessionView, ShowsWorld, name_by, open_in, session}
 use Rattle.sis_core.specs.declared.opens.Open.{Open}
 use Rattle.sis_core.proofs.Named.{IsFound, found_in, found_passes, found_there, is_found, same_file}
 use Rattle.sis_core.proofs.Opened.{IsOpened}
+use Rattle.sis_core.proofs.OpensIndex.{some_as}
 use Rattle.sis_core.proofs.Told.{told_decided}
 
 -- ---- the least free number
@@ -61,6 +63,94 @@ least_none test n above all =
     let none : 65 - n ≡ 0 = omega arith in
     ap (λ (o : Option ℕ). unwrap_or o 0)
     (ap (λ (k : ℕ). find test (range_with_len n k)) (sym none) ∙ all)
+
+-- ---- a client with few opens has a number free
+
+none_passes : (test : ℕ → Bool) (first len : ℕ) → find test (range_with_len first len) ≡ None
+    → (q : ℕ) → q < len → test (first + q) ≡ false
+none_passes test first zero none q lt = absurd (omega arith)
+none_passes test first (suc len) none q lt =
+    elim (test first) as (λ b. test first ≡ b
+    → cond b (Some first) (find test (range_with_len (first + 1) len)) ≡ None
+    → test (first + q) ≡ false) [
+      | true ↦ λ is h. absurd cc
+      | false ↦ λ is h. by q lt is (none_passes test (first + 1) len h)
+    ] refl none
+  where
+    by : (k : ℕ) → k < suc len → test first ≡ false
+        → ((p : ℕ) → p < len → test ((first + 1) + p) ≡ false) → test (first + k) ≡ false
+    by zero low is others =
+        let same : first ≡ first + 0 = omega arith in
+        subst (λ (p : ℕ). test p ≡ false) same is
+    by (suc k) low is others =
+        let same : (first + 1) + k ≡ first + suc k = omega arith in
+        subst (λ (p : ℕ). test p ≡ false) same (others k (omega arith))
+
+-- a client's numbers, counted from 0
+abbrev numbers_of : ℕ → List Open → List ℕ
+numbers_of client opens = map (λ o. o.number - 1) (filter (is_of client) opens)
+
+in_use : (client q : ℕ) (opens : List Open) → list_any (is_as client (1 + q)) opens ≡ true
+    → list_any (eqb q) (numbers_of client opens) ≡ true
+in_use client q [] used = absurd cc
+in_use client q (o ∷ os) used =
+    elim (is_of client o) as (λ b. is_of client o ≡ b
+    → list_any (eqb q) (map (λ p. p.number - 1)
+    (cond b (o ∷ filter (is_of client) os) (filter (is_of client) os))) ≡ true) [
+      | true ↦ λ is.
+          elim (is_as client (1 + q) o) as (λ b. is_as client (1 + q) o ≡ b
+          → (b || list_any (is_as client (1 + q)) os) ≡ true
+          → (eqb q (o.number - 1) || list_any (eqb q) (numbers_of client os)) ≡ true) [
+            | true ↦ λ this h.
+                let same : eqb q (o.number - 1) ≡ true = grind (arith, nat_tests) in
+                rw same refl
+            | false ↦ λ other h. or_true (eqb q (o.number - 1)) _ (in_use client q os h)
+          ] refl used
+      | false ↦ λ other.
+          let this : is_as client (1 + q) o ≡ false = rw other refl in
+          in_use client q os
+          (subst (λ (b : Bool). (b || list_any (is_as client (1 + q)) os) ≡ true) this used)
+    ] refl
+  where
+    or_true : (a b : Bool) → b ≡ true → (a || b) ≡ true
+    or_true true b is = refl
+    or_true false b is = is
+
+-- the client has this number free
+abbrev is_free : ℕ → List Open → ℕ → Bool
+is_free client opens number = not (list_any (is_as client number) opens)
+
+-- no open has the least free number
+pub free_there : (client : ℕ) (opens : List Open) → length (filter (is_of client) opens) < 64
+    → open_as client (free_number client opens) opens ≡ None
+free_there client opens few =
+    let found = find (is_free client opens) (range_with_len 1 64) in
+    elim found as (λ q. found ≡ q → open_as client (unwrap_or q 0) opens ≡ None) [
+      | None ↦ λ none.
+          let full : 64 ≤ length (numbers_of client opens) =
+          le-length_from_below (numbers_of client opens) 64 (λ q lt. in_use client q opens
+          (taken _ (none_passes (is_free client opens) 1 64 none q lt))) in
+          absurd (omega (
+            arith,
+            few,
+            full,
+            length-map (filter (is_of client) opens) (λ (o : Open). o.number - 1),
+          ))
+      | Some n ↦ λ is.
+          unused n (found_passes (is_free client opens) (range_with_len 1 64) n is)
+    ] refl
+  where
+    taken : (b : Bool) → not b ≡ false → b ≡ true
+    taken true is = refl
+    taken false is = absurd cc
+
+    none_left : (q : Option Open) → not (is_some q) ≡ true → q ≡ None
+    none_left None is = refl
+    none_left (Some o) is = absurd cc
+
+    unused : (n : ℕ) → is_free client opens n ≡ true → open_as client n opens ≡ None
+    unused n is =
+        none_left (open_as client n opens) (ap not (some_as (is_as client n) opens) ∙ is)
 
 -- ---- the opens of a client
 
@@ -156,7 +246,7 @@ pub opened_decides : (w : World) (s : SessionView) (client number id : ℕ) (nam
     → number ≡ free_number client s.opens
     → new
     ≡ s.opens ++ record { client = client; number = number; file = id; writes = writes } ∷ []
-    → Decides w s (session s.volume new) client (command.Open name writes) (reply.Opened number)
+    → DecidesFor w s (session s.volume new) client (command.Open name writes) (reply.Opened number)
 opened_decides w s client number id name writes found new shows up t e is user few number_is added =
     let v = s.volume.table in
     let this : Open =

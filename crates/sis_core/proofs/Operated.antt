@@ -1,6 +1,6 @@
 -- What a session decides by an operation on its volume.
 use Rattle.std.proofs.Common.{◌≡◌, ◌⊎◌, inl, inr, ℕ, ◌+◌, ◌<◌, ◌≤◌, ◌&&◌, ◌||◌, not, Bool, true, false, List, [], length, map, Option, None, Some, Result, Ok, Err, if◌then◌else◌, refl, sym, ap, subst, ◌∙◌, arith}
-use Rattle.std.specs.Prelude.{◌==◌, nat_lt, unwrap_or, IfSome}
+use Rattle.std.specs.Prelude.{◌==◌, nat_lt, unwrap_or, IfSome, IsOk}
 use Rattle.std.specs.Option.{option_map}
 use Rattle.std.proofs.lemmas.Bool.Decides.{nat_tests}
 use Rattle.sis_disk.specs.Layout.{data_blocks, first_byte, table_cap}
@@ -35,8 +35,10 @@ use Rattle.sis_volume.specs.View.{VolumeView}
 use Rattle.sis_copyclose.specs.Hindering.{Hinders, LacksRoom}
 use Rattle.sis_copyclose.specs.Operating.{EndsBy, MadeRoom, Operates, StillUp}
 use Rattle.sis_core.specs.declared.opens.Open.{Open}
-use Rattle.sis_core.specs.Deciding.{Decided, Decides, plain_job}
+use Rattle.sis_core.specs.Costs.{CallsFor, reads_for}
+use Rattle.sis_core.specs.Deciding.{Decided, DecidesFor, plain_job}
 use Rattle.sis_core.specs.Session.{AreThere, FitsArea, Jobs, SessionView, ShowsWorld, open_in, session, stage_of}
+use Rattle.sis_core.proofs.CostLemmas.{calls_none, calls_operated}
 
 -- ---- what an operation is for
 
@@ -48,8 +50,8 @@ pub record Suits (w : World) (s : SessionView) (client : ℕ) (c : Command) (nee
   pub need_is : (jobs : Jobs) → need_of (stage_of w s.volume jobs) client c ≡ need
   pub moves : (jobs : Jobs)
       → moves_data (stage_of w s.volume jobs) client c ≡ nat_lt 0 (need.blocks + reads)
+  pub reads_is : (jobs : Jobs) → reads_for (stage_of w s.volume jobs) client c ≡ reads
   pub waits : commits c ≡ false
-  pub edits : edits_table c ≡ true
   pub memory : takes_memory c ≡ true
   pub leads : (next : VolumeTable) → MayLead next → (fresh : Fresh)
       × AreFreePlaces s.volume.table need.blocks fresh.places
@@ -160,7 +162,7 @@ changed_layout s client command.End fresh = refl
 pub decides_same : (w : World) (s : SessionView) (new : VolumeView) (client : ℕ) (c : Command)
     (r : Reply) → ShowsWorld w s → world_with w client c r ≡ w → new.table ≡ s.volume.table
     → files_in new.table new.seen ≡ files_in s.volume.table s.volume.seen
-    → Decided w s.volume new client c r → Decides w s (session new s.opens) client c r
+    → Decided w s.volume new client c r → DecidesFor w s (session new s.opens) client c r
 decides_same w s new client c r shows world table files decided = record {
   decided = decided;
   stands =
@@ -186,7 +188,7 @@ pub refused : (w : World) (s : SessionView) (client : ℕ) (c : Command) (r : Re
     → MayAppear w client c r
     → ((fresh : Fresh) (jobs later : Jobs) (next : World) → Fits (stage_of w s.volume jobs) fresh
     (stage_of next s.volume later) client (plain_job c) r)
-    → Decides w s (session s.volume s.opens) client c r
+    → DecidesFor w s (session s.volume s.opens) client c r
 refused w s client c r shows up refusal kind not_down durable may fits =
     decides_same w s s.volume client c r shows (ap (world_as w client c) kind) refl refl
     (inl (
@@ -205,8 +207,9 @@ refused w s client c r shows up refusal kind not_down durable may fits =
             (sym kind);
         edits = record {
           durable = λ is. absurd (different (sym is ∙ durable));
-          only = λ is_changed. inl is_changed;
+          only = λ jobs is_changed. inl is_changed;
         };
+        needed = λ jobs. calls_none (stage_of w s.volume jobs) s.volume client c;
         calls = up_refl (first_byte s.volume.table.layout) s.volume.seen;
         elapses = none_elapses s.volume.seen;
       },
@@ -241,6 +244,14 @@ module _ (w : World) (s : SessionView) (client : ℕ) (c : Command) (need : Need
       none true is false waits false later test = absurd (different test)
       none false is false waits false later test = grind (arith, nat_tests, is)
 
+  -- what it called was for the command
+  called : {T : Type 0} (result : Result T Hindrance) (new : VolumeView)
+      → Operates {T = T} need MayLead change reads result s.volume new → (jobs : Jobs)
+      → CallsFor (stage_of w s.volume jobs) s.volume new client c
+  called result new left jobs =
+      calls_operated (stage_of w s.volume jobs) client c need MayLead change reads s.volume new
+      is.waits (is.need_is jobs) (is.reads_is jobs) up result left
+
   -- ---- nothing was carried out
 
   changed_before : (new : VolumeView)
@@ -261,7 +272,7 @@ module _ (w : World) (s : SessionView) (client : ℕ) (c : Command) (need : Need
       → ((jobs : Jobs)
       → may_have_called (stage_of w s.volume jobs) client c (reply.Hindered by) ≡ false
       → new.seen ≡ s.volume.seen)
-      → Decides w s (session new s.opens) client c (reply.Hindered by)
+      → DecidesFor w s (session new s.opens) client c (reply.Hindered by)
   hindered by first fresh new kind not_down left goes cause uncalled =
       decides_same w s new client c (reply.Hindered by) shows (ap (world_as w client c) kind)
       left.err left.kept
@@ -283,8 +294,9 @@ module _ (w : World) (s : SessionView) (client : ℕ) (c : Command) (need : Need
             durable = λ durable.
                 absurd
                 (different (sym durable ∙ not_durable c (reply.Hindered by) is.waits));
-            only = λ is_changed. inl (changed_before new left.books is_changed);
+            only = λ jobs is_changed. inl (changed_before new left.books is_changed);
           };
+          needed = called (Err by) new left;
           calls = goes.calls;
           elapses = left.elapses;
         },
@@ -308,7 +320,7 @@ module _ (w : World) (s : SessionView) (client : ℕ) (c : Command) (need : Need
       → StillUp s.volume new → new ≡ s.volume
       → ((jobs later : Jobs) (next : World)
       → IsCause (stage_of w s.volume jobs) none (stage_of next new later) client c by)
-      → Decides w s (session new s.opens) client c (reply.Hindered by)
+      → DecidesFor w s (session new s.opens) client c (reply.Hindered by)
   met by new kind not_down left goes same cause =
       hindered by false none new kind not_down left goes cause
       (λ jobs test. ap (λ (v : VolumeView). v.seen) same)
@@ -331,34 +343,44 @@ module _ (w : World) (s : SessionView) (client : ℕ) (c : Command) (need : Need
   later_idle by new later left jobs test =
       idle_uncalled new jobs (reply.Hindered by) later left.idle test
 
+  -- the command edits the table
+  abbrev Tables : Type 0
+  Tables = (jobs : Jobs) → edits_table (stage_of w s.volume jobs) client c ≡ true
+
+  -- the command edits the table, or it has nothing to do, and so does nothing
+  abbrev pub EditsOrStays : {T : Type 0} → Result T Hindrance → VolumeView → Type 0
+  EditsOrStays result new = (jobs : Jobs)
+      → (edits_table (stage_of w s.volume jobs) client c ≡ true)
+      ⊎ (IsOk result × (new ≡ s.volume))
+
   -- an operation failed so
   failed : {T : Type 0} (by : Hindrance) (new : VolumeView)
-      → Operates {T = T} need MayLead change reads (Err by) s.volume new
+      → Operates {T = T} need MayLead change reads (Err by) s.volume new → Tables
       → Hinders need MayLead s.volume new by → EndsBy s.volume new by
-      → Decides w s (session new s.opens) client c (reply.Hindered by)
-  failed (hindrance.Limit limit.Opens) new left cause goes =
+      → DecidesFor w s (session new s.opens) client c (reply.Hindered by)
+  failed (hindrance.Limit limit.Opens) new left edits cause goes =
       absurd (not_opens s.volume.table need cause.0)
-  failed (hindrance.Limit limit.Files) new left cause goes =
+  failed (hindrance.Limit limit.Files) new left edits cause goes =
       met (hindrance.Limit limit.Files) new refl refl left goes cause.1
       (λ jobs later next. is_met (hindrance.Limit limit.Files) jobs cause.0)
-  failed (hindrance.Limit limit.Ids) new left cause goes =
+  failed (hindrance.Limit limit.Ids) new left edits cause goes =
       met (hindrance.Limit limit.Ids) new refl refl left goes cause.1
       (λ jobs later next. is_met (hindrance.Limit limit.Ids) jobs cause.0)
-  failed (hindrance.Limit limit.Indexes) new left cause goes =
+  failed (hindrance.Limit limit.Indexes) new left edits cause goes =
       met (hindrance.Limit limit.Indexes) new refl refl left goes cause.1
       (λ jobs later next. is_met (hindrance.Limit limit.Indexes) jobs cause.0)
-  failed (hindrance.Limit limit.Versions) new left cause goes =
+  failed (hindrance.Limit limit.Versions) new left edits cause goes =
       met (hindrance.Limit limit.Versions) new refl refl left goes cause.1
       (λ jobs later next. is_met (hindrance.Limit limit.Versions) jobs cause.0)
-  failed (hindrance.Full needed mapped total) new left cause goes =
+  failed (hindrance.Full needed mapped total) new left edits cause goes =
       met (hindrance.Full needed mapped total) new refl refl left goes cause.1
       (λ jobs later next. is_met (hindrance.Full needed mapped total) jobs cause.0)
-  failed (hindrance.TableFull needed cap) new left cause goes =
+  failed (hindrance.TableFull needed cap) new left edits cause goes =
       let next = cause.2 in
       let taken = is.leads next.0 next.1 in
       hindered (hindrance.TableFull needed cap) false taken.0 new refl refl left goes
       (λ jobs later after. (
-        is.edits,
+        edits jobs,
         record {
           unhindered = free_of jobs cause.0;
           places =
@@ -370,7 +392,7 @@ module _ (w : World) (s : SessionView) (client : ℕ) (c : Command) (need : Need
         cause.1,
       ))
       (later_idle (hindrance.TableFull needed cap) new refl left)
-  failed hindrance.Disk new left cause goes =
+  failed hindrance.Disk new left edits cause goes =
       hindered hindrance.Disk false none new refl refl left goes
       (λ jobs later next. (
         is.moves jobs ∙ some_needed (left.needed refl),
@@ -381,10 +403,10 @@ module _ (w : World) (s : SessionView) (client : ℕ) (c : Command) (need : Need
     where
       some_needed : 1 ≤ need.blocks + reads → nat_lt 0 (need.blocks + reads) ≡ true
       some_needed some = grind (arith, nat_tests)
-  failed hindrance.Memory new left cause goes =
+  failed hindrance.Memory new left edits cause goes =
       hindered hindrance.Memory true none new refl refl left goes
       (λ jobs later next. (is.memory, cause)) (later_idle hindrance.Memory new refl left)
-  failed (hindrance.Down at) new left cause goes =
+  failed (hindrance.Down at) new left edits cause goes =
       decides_same w s new client c (reply.Hindered (hindrance.Down at)) shows refl left.err
       left.kept
       (inr (inl (
@@ -396,6 +418,7 @@ module _ (w : World) (s : SessionView) (client : ℕ) (c : Command) (need : Need
           may = λ jobs. record {
             accepted = is.accepted;
             unhindered = free_of jobs cause.0;
+            edited = (cause.2).edited;
             cause =
                 inr
                 (subst (λ (n : Need). 0 < n.blocks) (sym (is.need_is jobs))
@@ -403,6 +426,7 @@ module _ (w : World) (s : SessionView) (client : ℕ) (c : Command) (need : Need
           };
           table = left.err;
           changed = ap (λ (v : VolumeView). v.is_changed) (cause.2).same;
+          needed = called (Err (hindrance.Down at)) new left;
           calls = goes.calls;
           elapses = left.elapses;
         },
@@ -414,14 +438,22 @@ module _ (w : World) (s : SessionView) (client : ℕ) (c : Command) (need : Need
   -- an operation failed
   pub operated_err : {T : Type 0} (result : Result T Hindrance) (by : Hindrance)
       (new : VolumeView) → Operates need MayLead change reads result s.volume new
-      → result ≡ Err by → Decides w s (session new s.opens) client c (reply.Hindered by)
-  operated_err {T = T} result by new left err =
+      → result ≡ Err by → EditsOrStays result new
+      → DecidesFor w s (session new s.opens) client c (reply.Hindered by)
+  operated_err {T = T} result by new left err edits =
       given (subst (λ (q : Result T Hindrance). Operates need MayLead change reads q s.volume new)
-      err left)
+      err left) (subst (λ (q : Result T Hindrance). EditsOrStays q new) err edits)
     where
+      surely : EditsOrStays {T = T} (Err by) new → Tables
+      surely edits jobs = elim (edits jobs) [
+        | inl table ↦ table
+        | inr nothing ↦ absurd (let ok = nothing.0 in cc)
+      ]
+
       given : Operates {T = T} need MayLead change reads (Err by) s.volume new
-          → Decides w s (session new s.opens) client c (reply.Hindered by)
-      given left = failed by new left (left.cause up) (left.goes up)
+          → EditsOrStays {T = T} (Err by) new
+          → DecidesFor w s (session new s.opens) client c (reply.Hindered by)
+      given left edits = failed by new left (surely edits) (left.cause up) (left.goes up)
 
   -- ---- it was carried out
 
@@ -452,12 +484,12 @@ module _ (w : World) (s : SessionView) (client : ℕ) (c : Command) (need : Need
   -- an operation was carried out
   pub operated_ok : {T : Type 0} (result : Result T Hindrance) (x : T) (new : VolumeView)
       → Operates need MayLead change reads result s.volume new → result ≡ Ok x
-      → Answers w client c reply.Done
+      → EditsOrStays result new → Answers w client c reply.Done
       → ((files : Files) → files ≡ w.files → change files ≡ (changed_by w client c).files)
       → (changed_by w client c).opens ≡ w.opens
       → ((next : VolumeTable) → MayLead next → KeepsOpens s.volume.table next s.opens)
-      → Decides w s (session new s.opens) client c reply.Done
-  operated_ok {T = T} result x new left ok answers so same_opens keeps =
+      → DecidesFor w s (session new s.opens) client c reply.Done
+  operated_ok {T = T} result x new left ok edits answers so same_opens keeps =
       given (subst (λ (q : Result T Hindrance). Operates need MayLead change reads q s.volume new)
       ok left)
     where
@@ -474,8 +506,17 @@ module _ (w : World) (s : SessionView) (client : ℕ) (c : Command) (need : Need
           (changed_layout (stage_of w s.volume jobs) client c fresh)
           (subst FitsArea same area)
 
+      edited_by : (jobs : Jobs) → new.is_changed ≡ true → (s.volume.is_changed ≡ true)
+          ⊎ ((kind_of reply.Done ≡ IsDone)
+          × (edits_table (stage_of w s.volume jobs) client c ≡ true))
+      edited_by jobs is_changed = elim (edits jobs) [
+        | inl table ↦ inr (refl, table)
+        | inr nothing ↦
+            inl (sym (ap (λ (v : VolumeView). v.is_changed) nothing.1) ∙ is_changed)
+      ]
+
       given : Operates {T = T} need MayLead change reads (Ok x) s.volume new
-          → Decides w s (session new s.opens) client c reply.Done
+          → DecidesFor w s (session new s.opens) client c reply.Done
       given left =
           let taken = is.leads new.table left.ok in
           let kept = keeps new.table left.ok in
@@ -510,8 +551,9 @@ module _ (w : World) (s : SessionView) (client : ℕ) (c : Command) (need : Need
                   durable = λ durable.
                       absurd
                       (different (sym durable ∙ not_durable c reply.Done is.waits));
-                  only = λ is_changed. inr (refl, is.edits);
+                  only = edited_by;
                 };
+                needed = called (Ok x) new left;
                 calls = left.up.calls;
                 elapses = left.elapses;
               },

@@ -9,8 +9,7 @@ use Rattle.sis_disk.specs.Stops.{Elapses, GoesOnBy}
 use Rattle.sis_history.specs.Durable.{makes_durable}
 use Rattle.sis_history.specs.Appearing.{MayAppear}
 use Rattle.sis_history.specs.Changed.{Fresh}
-use Rattle.sis_history.specs.Entering.{AnswersDown, MayCommit, MayEnter}
-use Rattle.sis_history.specs.Entering as entering
+use Rattle.sis_history.specs.Entering.{AnswersDown, Decides, MayCommit}
 use Rattle.sis_history.specs.Replies.{IsServed}
 use Rattle.sis_history.specs.Rows.{Enters, Fails, jobs_by, without_looks}
 use Rattle.sis_history.specs.Runs.{IsRow, MayCall}
@@ -29,10 +28,12 @@ use Rattle.sis_model.specs.declared.reply.Reply.TheVariants as reply
 use Rattle.sis_model.specs.declared.stale.Stale.{Stale}
 use Rattle.sis_table.specs.Volume.{IsTable, VolumeTable}
 use Rattle.sis_volume.specs.View.{VolumeView}
-use Rattle.sis_core.specs.Deciding.{Answered, Decided, Decides, FellDown, plain_job}
+use Rattle.sis_core.specs.Costs.{CallsFor}
+use Rattle.sis_core.specs.Deciding.{Answered, CommitFails, Decided, DecidesFor, plain_job}
 use Rattle.sis_core.specs.Session.{FitsArea, Jobs, SessionView, ShowsWorld, stage_of}
 use Rattle.sis_core.specs.Steps.{HasEntered, entry_of}
 use Rattle.sis_core.specs.View.{up_to}
+use Rattle.sis_core.proofs.CostLemmas.{calls_none}
 
 -- What the jobs are before and after an answer: the client's command is in hand and then no more,
 -- and the others stay.
@@ -102,7 +103,7 @@ answered_row w old new jobs later client c r fresh answering served fits a =
     record {
       may = record {
         job =
-            of_job (entering.Decides s fresh t e) (jobs client) (plain_job c) answering.has
+            of_job (Decides s fresh t e) (jobs client) (plain_job c) answering.has
             (record { asked = refl; fits = a.fits fits jobs later (world_with w client c r) });
         served = served;
         may = a.may;
@@ -120,7 +121,7 @@ answered_row w old new jobs later client c r fresh answering served fits a =
           (sym a.was_up) a.calls;
       world = refl;
       table = a.table jobs;
-      edits = (a.edits.durable, a.edits.only);
+      edits = (a.edits.durable, a.edits.only jobs);
       down = a.up ∙ sym a.was_up;
       jobs = entered_jobs s later client c e fresh refl answering;
       stales = λ who. nothing_left (who == client);
@@ -128,7 +129,7 @@ answered_row w old new jobs later client c r fresh answering served fits a =
 
 -- a commit failed in the step of the client's command
 failed_row : (w : World) (old new : VolumeView) (jobs later : Jobs) (client : ℕ) (c : Command)
-    (r : Reply) (at : ℕ) → IsAnswering jobs later client c → FellDown w old new client c r at
+    (r : Reply) (at : ℕ) → IsAnswering jobs later client c → CommitFails w old new client c r at
     → IsRow (stage_of w old jobs) (Fails client None at) (stage_of w new jobs)
 failed_row w old new jobs later client c r at answering f =
     let s = stage_of w old jobs in
@@ -164,7 +165,7 @@ down_row w v jobs later client c r at answering served down is =
     (sym is) (record {
       may = record {
         job =
-            of_job (entering.Decides s no_places t e) (jobs client) (plain_job c) answering.has
+            of_job (Decides s no_places t e) (jobs client) (plain_job c) answering.has
             (record { asked = refl; fits = down });
         served = served;
         may = inl refl;
@@ -315,7 +316,7 @@ decided_files w s new jobs later client c r is served fits before after shows (i
 pub decided_shows : (w : World) (old new : SessionView) (jobs later : Jobs) (client : ℕ)
     (c : Command) (r : Reply) → IsAnswering jobs later client c → IsServed c
     → FitsArea new.volume.table → IsTable old.volume.table → IsTable new.volume.table
-    → ShowsWorld w old → Decides w old new client c r
+    → ShowsWorld w old → DecidesFor w old new client c r
     → ShowsWorld (world_with w client c r) new
 decided_shows w old new jobs later client c r answering served fits before after shows d = record {
   world =
@@ -347,6 +348,15 @@ decided_elapses w old new client c r (inl answered) = answered.1.elapses
 decided_elapses w old new client c r (inr (inl fell)) = fell.1.elapses
 decided_elapses w old new client c r (inr (inr was)) =
     subst (λ (v : VolumeView). Elapses old.seen v.seen) (sym was.1.same) (no_calls old.seen)
+
+-- its calls were for the command
+pub decided_calls : (w : World) (old new : VolumeView) (jobs : Jobs) (client : ℕ) (c : Command)
+    (r : Reply) → Decided w old new client c r → CallsFor (stage_of w old jobs) old new client c
+decided_calls w old new jobs client c r (inl answered) = answered.1.needed jobs
+decided_calls w old new jobs client c r (inr (inl fell)) = fell.1.needed jobs
+decided_calls w old new jobs client c r (inr (inr was)) =
+    subst (λ (v : VolumeView). CallsFor (stage_of w old jobs) old v client c) (sym was.1.same)
+    (calls_none (stage_of w old jobs) old client c)
 
 -- the first calls that a disk tells it tells still
 front_on : (Are : List Call → Type 0) (n : ℕ) (was now : Option DiskRecord)

@@ -7,9 +7,9 @@ use Rattle.sis_disk.specs.Record.{DiskRecord, IsCounted, Seen}
 use Rattle.sis_disk.specs.Stops.{Elapses}
 use Rattle.sis_history.specs.Replies.{IsServed}
 use Rattle.sis_history.specs.Entries.{entries_of, with_row, with_rows}
-use Rattle.sis_history.specs.Rows as rows
-use Rattle.sis_history.specs.Rows.{Row, Begins, Fails, jobs_by, without_looks}
-use Rattle.sis_history.specs.Runs.{HasRun, IsRow, MayCall}
+use Rattle.sis_history.specs.Rows.{Row, Begins, Enters, Fails, jobs_by, without_looks}
+use Rattle.sis_history.specs.Runs.{AreOfClients, HasRun, IsRow, MayCall, first_stage}
+use Rattle.sis_history.proofs.ClientLemmas.{run_entries}
 use Rattle.sis_history.proofs.RunLemmas.{run_extended}
 use Rattle.sis_model.specs.Answer.{world_with}
 use Rattle.sis_model.specs.History.{world_after}
@@ -28,15 +28,15 @@ use Rattle.sis_core.specs.declared.job.Job.{Job}
 use Rattle.sis_core.specs.declared.job.Job.TheVariants as job
 use Rattle.sis_core.specs.declared.opens.Open.{Open}
 use Rattle.sis_core.specs.declared.start.CoreStart.{CoreStart}
-use Rattle.sis_core.specs.Deciding.{Decides, IsDurable, plain_job}
+use Rattle.sis_core.specs.Deciding.{DecidesFor, IsDurable, plain_job}
 use Rattle.sis_core.specs.Jobs.{HasJobs, IsClient, count_jobs}
-use Rattle.sis_core.specs.Opening as begun
+use Rattle.sis_core.specs.Opening.{RunBegins}
 use Rattle.sis_core.specs.Session.{FitsArea, ShowsWorld, session}
 use Rattle.sis_core.specs.Sound.{IsSound, IsSurvived}
-use Rattle.sis_core.specs.Steps.{Enters, HasEntered, IsSaved, entry_of}
+use Rattle.sis_core.specs.Steps.{HasEntered, IsSaved, StepEnters, entry_of}
 use Rattle.sis_core.specs.View.{CoreView, Opening, core_view, job_of, jobs_in, noted, opening_of, session_of, stage_in, up_to}
 use Rattle.sis_core.proofs.JobLemmas.{count_set, job_count, job_here, job_there, jobs_set, no_looks}
-use Rattle.sis_core.proofs.Rows.{IsAnswering, decided_down, decided_elapses, decided_front, decided_rows, decided_shows, nothing_left}
+use Rattle.sis_core.proofs.Rows.{IsAnswering, decided_calls, decided_down, decided_elapses, decided_front, decided_rows, decided_shows, nothing_left}
 use Rattle.sis_core.proofs.Surviving.{calls_went, entry_added}
 
 -- ---- the opening
@@ -90,7 +90,7 @@ long_enough n seen counted le = by seen.told counted
 pub record IsEntered (old new : CoreView) (client : ℕ) (c : Command) (r : Reply) : Type 0 where
   pub has : job_of old.jobs client ≡ Some (job.Begun c)
   pub decides : (w : World) → ShowsWorld w (session_of old)
-      → Decides w (session_of old) (session_of new) client c r
+      → DecidesFor w (session_of old) (session_of new) client c r
   pub stops : StopsWell old.volume new.volume
   pub durable : IsDurable new.volume c r
   pub saved : is_end c ≡ true → IsSaved new
@@ -159,7 +159,7 @@ entered_opening old new client c r s e =
 
 -- what a step says of it
 pub entered_steps : (old new : CoreView) (client : ℕ) (c : Command) (r : Reply) → IsSound old
-    → IsClient client → IsEntered old new client c r → Enters old client r new
+    → IsClient client → IsEntered old new client c r → StepEnters old client r new
 entered_steps old new client c r s client_is e = record {
   command = c;
   has = e.has;
@@ -170,11 +170,14 @@ entered_steps old new client c r s client_is e = record {
   spare = e.spare;
   opening = entered_opening old new client c r s e;
   saved = e.saved;
+  calls = λ w shows.
+      decided_calls w old.volume new.volume (jobs_in old.jobs) client c r
+      (e.decides w shows).decided;
 }
 
 row_behind : (es fs : List Entry) (row : Row) → with_row (es ++ fs) row ≡ es ++ with_row fs row
 row_behind es fs (Begins client command) = refl
-row_behind es fs (rows.Enters entry fresh) = append_assoc es fs (entry ∷ [])
+row_behind es fs (Enters entry fresh) = append_assoc es fs (entry ∷ [])
 row_behind es fs (Fails client file at) = refl
 
 rows_behind : (es fs : List Entry) (rows : List Row)
@@ -228,7 +231,7 @@ entered_sound old new client c r s client_is e =
       world = s.world;
       opened = s.opened;
       begins =
-          subst (λ (o : Opening). begun.Begins o s.world s.opened) (sym opening) s.begins;
+          subst (λ (o : Opening). RunBegins o s.world s.opened) (sym opening) s.begins;
       run =
           subst (λ (o : Opening).
           HasRun s.world s.opened o.seen new.entries
@@ -264,6 +267,16 @@ entered_sound old new client c r s client_is e =
           let start = ap (λ (y : CoreStart). y.calls) e.start in
           omega (arith, s.elapsed, elapses.calls, start);
     }
+
+-- ---- the entries
+
+-- each of them is a client's
+pub sound_clients : (v : CoreView) → IsSound v → AreOfClients v.entries
+sound_clients v s =
+    subst AreOfClients (sym s.run.same)
+    (run_entries (first_stage s.world s.opened (opening_of v).seen)
+    (stage_in (world_after s.world v.entries) v) s.run.rows s.run.run
+    (λ client j has. absurd (let e = has in cc)))
 
 -- ---- a command is begun
 
@@ -397,7 +410,7 @@ pub parts_entered : (old new : VolumeView) (opens later : List Open) (before aft
     (jobs : List (Option Job)) (now : Option Job) (client : ℕ) (c : Command) (r : Reply)
     (synced : ℕ) (start : CoreStart) → job_of jobs client ≡ Some (job.Begun c) → now ≡ None
     → ((w : World) → ShowsWorld w (session old opens)
-    → Decides w (session old opens) (session new later) client c r)
+    → DecidesFor w (session old opens) (session new later) client c r)
     → StopsWell old new → IsDurable new c r
     → (is_end c ≡ true → new.down ≡ None → new.is_changed ≡ false)
     → after.entries ≡ before.entries ++ entry_of client c r new.seen.calls ∷ []

@@ -43,8 +43,9 @@ use Rattle.sis_table.specs.declared.node.Node.{Node}
 use Rattle.sis_table.specs.Volume.{VolumeTable, IsTable, AreNodes, IsNextFile, has_name, id_of, last_id, names_after, node_named, node_with}
 use Rattle.sis_table.proofs.CallerLemmas.{keys-files_of, length-files_of}
 use Rattle.sis_volume.specs.View.{VolumeView}
-use Rattle.sis_core.specs.Deciding.{Decided, Decides, plain_job}
+use Rattle.sis_core.specs.Deciding.{Decided, DecidesFor, plain_job}
 use Rattle.sis_core.specs.Session.{FitsArea, Jobs, SessionView, ShowsWorld, session, stage_of}
+use Rattle.sis_core.proofs.CostLemmas.{calls_none}
 use Rattle.sis_core.proofs.Operated.{decides_same, different, if_some, none_elapses}
 
 -- ---- the file of a name has its id
@@ -318,8 +319,9 @@ told_decided w v client c r up t only kind not_down durable may reply_is fits = 
         sym (ap (table_as (stage_of w v jobs) client c no_fresh) kind ∙ only.table jobs);
     edits = record {
       durable = λ is. absurd (different (sym is ∙ durable));
-      only = λ is_changed. inl is_changed;
+      only = λ jobs is_changed. inl is_changed;
     };
+    needed = λ jobs. calls_none (stage_of w v jobs) v client c;
     calls = up_refl (first_byte v.table.layout) v.seen;
     elapses = none_elapses v.seen;
   },
@@ -331,7 +333,7 @@ pub only_told : (w : World) (s : SessionView) (client : ℕ) (c : Command) (r : 
     → OnlyTells w s.volume client c → kind_of r ≡ IsDone → changed_by w client c ≡ w
     → is_down r ≡ false → makes_durable c r ≡ false → MayAppear w client c r
     → MayReply w client c r → FitsTold w s.volume client c r
-    → Decides w s (session s.volume s.opens) client c r
+    → DecidesFor w s (session s.volume s.opens) client c r
 only_told w s client c r shows up t only kind leaves not_down durable may reply_is fits =
     decides_same w s s.volume client c r shows (ap (world_as w client c) kind ∙ leaves) refl refl
     (told_decided w s.volume client c r up t only kind not_down durable may reply_is fits)
@@ -340,7 +342,7 @@ only_told w s client c r shows up t only kind leaves not_down durable may reply_
 pub short_told : (w : World) (s : SessionView) (client : ℕ) (c : Command) → ShowsWorld w s
     → s.volume.down ≡ None → takes_memory c ≡ true
     → makes_durable c (reply.Hindered hindrance.Memory) ≡ false
-    → Decides w s (session s.volume s.opens) client c (reply.Hindered hindrance.Memory)
+    → DecidesFor w s (session s.volume s.opens) client c (reply.Hindered hindrance.Memory)
 short_told w s client c shows up memory durable =
     decides_same w s s.volume client c (reply.Hindered hindrance.Memory) shows refl refl refl (inl (
       no_fresh,
@@ -357,8 +359,9 @@ short_told w s client c shows up memory durable =
         table = λ jobs. refl;
         edits = record {
           durable = λ is. absurd (different (sym is ∙ durable));
-          only = λ is_changed. inl is_changed;
+          only = λ jobs is_changed. inl is_changed;
         };
+        needed = λ jobs. calls_none (stage_of w s.volume jobs) s.volume client c;
         calls = up_refl (first_byte s.volume.table.layout) s.volume.seen;
         elapses = none_elapses s.volume.seen;
       },

@@ -1,21 +1,21 @@
 -- Turns of clients, one after the other, and the lines that they take.
-use Rattle.std.proofs.Common.{◌≡◌, ◌≢◌, ◌⊎◌, inl, inr, ℕ, zero, suc, ◌+◌, ◌-◌, ◌<◌, ◌≤◌, Bool, true, false, ◌||◌, List, [], ◌∷◌, ◌++◌, length, map, refl, sym, ap, subst, ◌∙◌, arith, append_assoc, append-nil}
+use Rattle.std.proofs.Common.{◌≡◌, ◌≢◌, ◌⊎◌, inl, inr, ℕ, zero, suc, ◌+◌, ◌-◌, ◌<◌, ◌≤◌, Bool, true, false, ◌||◌, List, [], ◌∷◌, ◌++◌, length, refl, sym, ap, subst, ◌∙◌, arith, append_assoc, append-nil}
 use Rattle.std.specs.Prelude.{All, not, if◌then◌else◌, ◌==◌}
 use Rattle.std.specs.List.{list_any}
 use Rattle.std.proofs.lemmas.List.{length-append}
 use Rattle.std.proofs.lemmas.Bool.Decides.{nat_tests}
 use Rattle.sis_history.specs.Replies.{IsServed}
-use Rattle.sis_model.specs.Order.{IsTurnOrder, TakeOneTurn, calls_of, commands_of, end_of, exec_order, expected_calls, is_end, line_of, most_clients, next_of, remaining, rounds, taken, takes_one_turn, up_to_client, with_end, without_ends, without_next}
+use Rattle.sis_model.specs.Order.{TakeOneTurn, commands_of, end_of, exec_order, expected_calls, is_end, most_clients, next_of, remaining, rounds, taken, takes_one_turn, up_to_client, with_end, without_ends, without_next}
 use Rattle.sis_model.specs.declared.command.Command.{Command}
 use Rattle.sis_model.specs.declared.command.Command.TheVariants as command
-use Rattle.sis_model.specs.declared.history.Entry.{Entry}
 use Rattle.sis_model.specs.declared.history.Line.{Line}
 use Rattle.sis_model.proofs.Orders.{commands-exec_order}
 use Rattle.sis_core.specs.Jobs.{AreIdle, IsClient}
 use Rattle.sis_core.specs.Rest.{IsReady, RestView, left}
 use Rattle.sis_core.specs.Steps.{IsSaved}
-use Rattle.sis_core.specs.Turns.{EachEnds, HadTurns, LastIsEnd}
+use Rattle.sis_core.specs.Turns.{AddsLines, AddsTurns, EachEnds, HadTurns, LastIsEnd}
 use Rattle.sis_core.specs.View.{CoreView, opening_of}
+use Rattle.sis_core.proofs.AddLemmas.{adds_as, adds_length, adds_none, adds_then}
 use Rattle.sis_core.proofs.LineLemmas.{commands-append, commands_mine, commands_other, same_or_not}
 
 -- ---- a client's next line is taken out
@@ -246,7 +246,7 @@ all_exec_order P ends (l ∷ ls) all =
 pub had_none : (v : CoreView) (r : RestView) (ls : List Line) → IsReady v r ls
     → HadTurns v v ls r []
 had_none v r ls ready = record {
-  entries = sym (append-nil (map line_of v.entries));
+  entries = adds_none v.entries;
   ready = ready;
   opening = refl;
   saved = λ ends none was. was none;
@@ -257,9 +257,9 @@ pub had_then : (a b c : CoreView) (ls : List Line) (mid after : RestView) (ts us
     → HadTurns a c ls after (ts ++ us)
 had_then a b c ls mid after ts us one two = record {
   entries =
-      two.entries ∙ ap (λ (xs : List Line). xs ++ taken (remaining ls ts) us) one.entries
-      ∙ append_assoc (map line_of a.entries) (taken ls ts) (taken (remaining ls ts) us)
-      ∙ ap (λ (xs : List Line). map line_of a.entries ++ xs) (sym (taken-append ls ts us));
+      adds_as a.entries c.entries _ (taken ls (ts ++ us)) (sym (taken-append ls ts us))
+      (adds_then a.entries b.entries c.entries (taken ls ts) (taken (remaining ls ts) us)
+      one.entries two.entries);
   ready = subst (IsReady c after) (sym (remaining-append ls ts us)) two.ready;
   opening = two.opening ∙ one.opening;
   saved = λ ends none was.
@@ -273,9 +273,9 @@ had_passed : (v : CoreView) (before after : RestView) (ls : List Line) (c : ℕ)
     → HadTurns v v ls after (c ∷ [])
 had_passed v before after ls c same none ready = record {
   entries =
-      sym (append-nil (map line_of v.entries))
-      ∙ ap (λ (xs : List Line). map line_of v.entries ++ xs)
-      (sym (append-nil (next_of c (commands_of c ls)) ∙ ap (next_of c) none));
+      adds_as v.entries v.entries [] (taken ls (c ∷ []))
+      (sym (append-nil (next_of c (commands_of c ls)) ∙ ap (next_of c) none))
+      (adds_none v.entries);
   ready =
       subst (IsReady v after) (sym (without_none c ls none)) (record {
         idle = ready.idle;
@@ -326,18 +326,19 @@ next_room v before after ls c x client is ready =
 pub had_moved : (old new : CoreView) (before after : RestView) (ls : List Line) (c : ℕ)
     (x : Command) → IsClient c → left before c ≡ x ∷ left after c
     → ((other : ℕ) → other ≢ c → left after other ≡ left before other) → IsReady old before ls
-    → map line_of new.entries ≡ map line_of old.entries ++ record { client = c; command = x } ∷ []
+    → AddsLines old.entries new.entries (record { client = c; command = x } ∷ [])
     → AreIdle new.jobs → old.spare ≤ new.spare + 1 → opening_of new ≡ opening_of old
     → (is_end x ≡ true → IsSaved new)
     → HadTurns old new ls after (c ∷ [])
-had_moved old new before after ls c x client is others ready lines idle spare opening saved =
+had_moved old new before after ls c x client is others ready adds idle spare opening saved =
     let mine = next_command old before after ls c x client is ready in
     let here : commands_of c (without_next c ls) ≡ left after c =
     commands_without c ls ∙ ap behind mine in
     record {
       entries =
-          lines ∙ ap (λ (xs : List Line). map line_of old.entries ++ xs)
-          (sym (append-nil (next_of c (commands_of c ls)) ∙ ap (next_of c) mine));
+          adds_as old.entries new.entries (record { client = c; command = x } ∷ [])
+          (taken ls (c ∷ []))
+          (sym (append-nil (next_of c (commands_of c ls)) ∙ ap (next_of c) mine)) adds;
       ready = record {
         idle = idle;
         left = λ n lt. same_or_not n c _
@@ -355,16 +356,6 @@ had_moved old new before after ls c x client is others ready lines idle spare op
           saved (subst LastIsEnd (mine ∙ ap (λ (cs : List Command). x ∷ cs)
           (sym here ∙ ap (commands_of c) none)) (ends c));
     }
-
-pub longer : (old new : List Entry) (l : Line)
-    → map line_of new ≡ map line_of old ++ l ∷ [] → length old < length new
-longer old new l is =
-    let size = ap length is in
-    omega (arith, size, length-append (map line_of old) (l ∷ []), sizes old, sizes new)
-  where
-    sizes : (es : List Entry) → length (map line_of es) ≡ length es
-    sizes [] = refl
-    sizes (e ∷ es) = omega (arith, sizes es)
 
 -- ---- rounds
 
@@ -441,19 +432,11 @@ pub had_size : (old new : CoreView) (ls : List Line) (r : RestView) (ts : List �
     → HadTurns old new ls r ts
     → length new.entries + length (remaining ls ts) ≡ length old.entries + length ls
 had_size old new ls r ts had =
-    let size = ap length had.entries in
     omega (
       arith,
-      size,
-      length-append (map line_of old.entries) (taken ls ts),
+      adds_length old.entries new.entries (taken ls ts) had.entries,
       length-taken ls ts,
-      sizes old.entries,
-      sizes new.entries,
     )
-  where
-    sizes : (es : List Entry) → length (map line_of es) ≡ length es
-    sizes [] = refl
-    sizes (e ∷ es) = omega (arith, sizes es)
 
 -- nobody has anything left
 pub none_remains : (old new : CoreView) (ls : List Line) (r : RestView) (ts : List ℕ)
@@ -462,17 +445,14 @@ none_remains old new ls r ts had none =
     none_at_all (remaining ls ts) had.ready.clients
     (λ c is. let most = is.1 in sym (had.ready.left c (omega (arith, most))) ∙ none c is)
 
-pub had_calls : (old new : CoreView) (lines : List Line) (r : RestView) (ts : List ℕ) (c : ℕ)
-    → HadTurns old new (exec_order lines) r ts → remaining (exec_order lines) ts ≡ []
-    → calls_of new.entries c ≡ calls_of old.entries c ++ expected_calls lines c
-had_calls old new lines r ts c had none =
-    ap (commands_of c) had.entries
-    ∙ commands-append c (map line_of old.entries) (taken (exec_order lines) ts)
-    ∙ ap (λ (cs : List Command). calls_of old.entries c ++ cs)
-    (sym (append-nil (commands_of c (taken (exec_order lines) ts)))
+-- so each client's commands were taken
+all_taken : (lines : List Line) (ts : List ℕ) (c : ℕ) → remaining (exec_order lines) ts ≡ []
+    → commands_of c (taken (exec_order lines) ts) ≡ expected_calls lines c
+all_taken lines ts c none =
+    sym (append-nil (commands_of c (taken (exec_order lines) ts)))
     ∙ ap (λ (xs : List Line). commands_of c (taken (exec_order lines) ts) ++ commands_of c xs)
     (sym none)
-    ∙ commands-taken c (exec_order lines) ts ∙ commands-exec_order c lines)
+    ∙ commands-taken c (exec_order lines) ts ∙ commands-exec_order c lines
 
 -- ---- the order of the lines, without their clients' ends
 
@@ -605,25 +585,26 @@ none_with_ends (l ∷ ls) all h none =
         let f = sym empty ∙ e ∙ ap (λ (cs : List Command). cs ++ command.End ∷ []) mine in cc
     by (inr e) mine empty = let f = sym e.0 ∙ mine in cc
 
--- the entries but for the ends stand in the order of the turns
-pub had_order : (old new : CoreView) (lines : List Line) (r : RestView) (schedule : List ℕ) (n : ℕ)
+-- ---- the entries
+
+-- all turns were had, and nothing is left
+pub had_all : (old new : CoreView) (lines : List Line) (r : RestView) (schedule : List ℕ) (n : ℕ)
     → HadTurns old new (exec_order lines) r (schedule ++ rounds n)
-    → remaining (exec_order lines) (schedule ++ rounds n) ≡ [] → TakeOneTurn lines
-    → (order : List Line) × IsTurnOrder lines schedule order
-    × (without_ends (map line_of new.entries) ≡ without_ends (map line_of old.entries) ++ order)
-had_order old new lines r schedule n had none once = (
-  taken lines (schedule ++ rounds n),
-  (
-    n,
-    refl,
-    none_with_ends (remaining lines (schedule ++ rounds n))
-        (remaining (exec_order lines) (schedule ++ rounds n))
-        (with_remaining (schedule ++ rounds n) lines (exec_order lines) (with_exec_order lines))
-        none,
-  ),
-  ap without_ends had.entries
-      ∙ without_ends-append (map line_of old.entries)
-      (taken (exec_order lines) (schedule ++ rounds n))
-      ∙ ap (λ (xs : List Line). without_ends (map line_of old.entries) ++ xs)
-      (same_taken (schedule ++ rounds n) lines (exec_order lines) once (with_exec_order lines)),
-)
+    → remaining (exec_order lines) (schedule ++ rounds n) ≡ []
+    → AddsTurns old.entries new.entries lines schedule
+had_all old new lines r schedule n had none =
+    let adds = had.entries in
+    let turns = schedule ++ rounds n in
+    record {
+      more = adds.more;
+      kept = adds.kept;
+      calls = λ c. ap (commands_of c) adds.lines ∙ all_taken lines turns c none;
+      order = (n, adds.lines, none);
+      own_order = λ once. (
+        n,
+        ap without_ends adds.lines
+            ∙ same_taken turns lines (exec_order lines) once (with_exec_order lines),
+        none_with_ends (remaining lines turns) (remaining (exec_order lines) turns)
+            (with_remaining turns lines (exec_order lines) (with_exec_order lines)) none,
+      );
+    }

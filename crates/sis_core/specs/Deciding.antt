@@ -19,6 +19,7 @@ use Rattle.sis_model.specs.declared.reply.Reply.TheVariants as reply
 use Rattle.sis_table.specs.Content.{files_in}
 use Rattle.sis_volume.specs.Stopping.{OpensTable}
 use Rattle.sis_volume.specs.View.{VolumeView}
+use Rattle.sis_core.specs.Costs.{CallsFor}
 use Rattle.sis_core.specs.Session.{AreThere, FitsArea, Jobs, SessionView, open_in, stage_of}
 
 -- a command of which nothing was done so far
@@ -26,10 +27,11 @@ abbrev pub plain_job : Command → Job
 plain_job c = record { command = c; notes = []; looks = 0; detached = false; grovel = None }
 
 -- whether the table was edited since the last commit, after a command with this reply
-pub record Edits (old new : VolumeView) (c : Command) (r : Reply) : Type 0 where
+pub record Edits (w : World) (old new : VolumeView) (client : ℕ) (c : Command) (r : Reply)
+    : Type 0 where
   pub durable : makes_durable c r ≡ true → new.is_changed ≡ false
-  pub only : new.is_changed ≡ true
-      → (old.is_changed ≡ true) ⊎ ((kind_of r ≡ IsDone) × (edits_table c ≡ true))
+  pub only : (jobs : Jobs) → new.is_changed ≡ true → (old.is_changed ≡ true)
+      ⊎ ((kind_of r ≡ IsDone) × (edits_table (stage_of w old jobs) client c ≡ true))
 
 -- The command was decided while no commit has failed, and took what was free. `jobs` and `later` are
 -- the clients' jobs before and after, and `next` is the world after, of which nothing is said here.
@@ -48,12 +50,13 @@ pub record Answered (w : World) (old new : VolumeView) (client : ℕ) (c : Comma
   pub quiet : kind_of r ≡ IsDone → new.seen.faults ≡ old.seen.faults
   pub table : (jobs : Jobs)
       → new.table ≡ table_as (stage_of w old jobs) client c fresh (kind_of r)
-  pub edits : Edits old new c r
+  pub edits : Edits w old new client c r
+  pub needed : (jobs : Jobs) → CallsFor (stage_of w old jobs) old new client c
   pub calls : StaysUp (first_byte old.table.layout) old.seen new.seen
   pub elapses : Elapses old.seen new.seen
 
 -- a commit failed by call `at` of the disk, and that is answered
-pub record FellDown (w : World) (old new : VolumeView) (client : ℕ) (c : Command) (r : Reply)
+pub record CommitFails (w : World) (old new : VolumeView) (client : ℕ) (c : Command) (r : Reply)
     (at : ℕ) : Type 0 where
   pub was_up : old.down ≡ None
   pub down : new.down ≡ Some at
@@ -61,6 +64,7 @@ pub record FellDown (w : World) (old new : VolumeView) (client : ℕ) (c : Comma
   pub may : (jobs : Jobs) → MayCommit (stage_of w old jobs) client (plain_job c)
   pub table : new.table ≡ old.table
   pub changed : new.is_changed ≡ old.is_changed
+  pub needed : (jobs : Jobs) → CallsFor (stage_of w old jobs) old new client c
   pub calls : GoesDown (first_byte old.table.layout) at old.seen new.seen
   pub elapses : Elapses old.seen new.seen
 
@@ -73,11 +77,11 @@ pub record WasDown (old new : VolumeView) (r : Reply) (at : ℕ) : Type 0 where
 abbrev pub Decided : World → VolumeView → VolumeView → ℕ → Command → Reply → Type 0
 Decided w old new client c r =
     ((fresh : Fresh) × Answered w old new client c r fresh)
-    ⊎ ((at : ℕ) × FellDown w old new client c r at)
+    ⊎ ((at : ℕ) × CommitFails w old new client c r at)
     ⊎ ((at : ℕ) × WasDown old new r at)
 
 -- A client's command was decided, and the session shows the next world.
-pub record Decides (w : World) (old new : SessionView) (client : ℕ) (c : Command) (r : Reply)
+pub record DecidesFor (w : World) (old new : SessionView) (client : ℕ) (c : Command) (r : Reply)
     : Type 0 where
   pub decided : Decided w old.volume new.volume client c r
   pub stands : IfSome (files_in new.volume.table new.volume.seen)

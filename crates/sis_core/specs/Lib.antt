@@ -1,3 +1,4 @@
+pub mod Costs
 pub mod Deciding
 pub mod Jobs
 pub mod Opening

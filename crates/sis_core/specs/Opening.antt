@@ -36,7 +36,7 @@ Starts None w v = ShowsFiles w v × (w.opens ≡ [])
 Starts (Some m) w v = (w ≡ world_in m) × (v ≡ table_in m)
 
 -- These are the files, the table and the disk with which the run of a core began.
-pub record Begins (o : Opening) (w : World) (v : VolumeTable) : Type 0 where
+pub record RunBegins (o : Opening) (w : World) (v : VolumeTable) : Type 0 where
   pub starts : Starts (live_of o.seen) w v
   pub table : IsTable v
   pub good : IsGood v

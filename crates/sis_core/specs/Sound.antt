@@ -13,7 +13,7 @@ use Rattle.sis_table.specs.Volume.{IsTable, VolumeTable}
 use Rattle.sis_volume.specs.Stopping.{OpensNow}
 use Rattle.sis_volume.specs.View.{VolumeView}
 use Rattle.sis_core.specs.Jobs.{HasJobs, count_jobs}
-use Rattle.sis_core.specs.Opening.{Begins}
+use Rattle.sis_core.specs.Opening.{RunBegins}
 use Rattle.sis_core.specs.Session.{ShowsWorld}
 use Rattle.sis_core.specs.View.{CoreView, opening_of, session_of, stage_in}
 
@@ -29,7 +29,7 @@ pub record IsSurvived (first : ℕ) (w : World) (entries : List Entry) (v : Volu
 pub record IsSound (c : CoreView) : Type 0 where
   pub world : World
   pub opened : VolumeTable
-  pub begins : Begins (opening_of c) world opened
+  pub begins : RunBegins (opening_of c) world opened
   pub run : HasRun world opened (opening_of c).seen c.entries
       (stage_in (world_after world c.entries) c)
   pub shows : ShowsWorld (world_after world c.entries) (session_of c)

@@ -13,6 +13,7 @@ use Rattle.sis_model.specs.declared.reply.Reply.{Reply}
 use Rattle.sis_core.specs.declared.job.Job.TheVariants as job
 use Rattle.sis_core.specs.declared.turn.Turn.{Turn}
 use Rattle.sis_core.specs.declared.turn.Turn.TheVariants as turn
+use Rattle.sis_core.specs.Costs.{CallsFor}
 use Rattle.sis_core.specs.Session.{ShowsWorld}
 use Rattle.sis_core.specs.View.{CoreView, job_of, opening_of, session_of, stage_in}
 
@@ -37,7 +38,7 @@ pub record HasEntered (s : Stage) (client : ℕ) (e : Entry) (t : Stage) : Type 
   pub entry : entries_of rows ≡ e ∷ []
 
 -- The client's command was decided, and is answered.
-pub record Enters (old : CoreView) (client : ℕ) (r : Reply) (new : CoreView) : Type 0 where
+pub record StepEnters (old : CoreView) (client : ℕ) (r : Reply) (new : CoreView) : Type 0 where
   pub command : Command
   pub has : job_of old.jobs client ≡ Some (job.Begun command)
   pub rows : (w : World) → ShowsWorld w (session_of old)
@@ -51,8 +52,10 @@ pub record Enters (old : CoreView) (client : ℕ) (r : Reply) (new : CoreView) :
   pub spare : old.spare ≤ new.spare + 1
   pub opening : opening_of new ≡ opening_of old
   pub saved : is_end command ≡ true → IsSaved new
+  pub calls : (w : World) → ShowsWorld w (session_of old)
+      → CallsFor (stage_in w old) old.volume new.volume client command
 
 -- What a step does, by what it answers. So far each command is decided and answered in one step.
 abbrev pub Steps : CoreView → ℕ → Turn → CoreView → Type 0
 Steps old client turn.More new = ⊥
-Steps old client (turn.Answered r) new = Enters old client r new
+Steps old client (turn.Answered r) new = StepEnters old client r new

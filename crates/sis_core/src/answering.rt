@@ -5,7 +5,7 @@ ghost use Rattle.sis_model.specs.Order.{is_end};
 ghost use Rattle.sis_model.specs.World.{World};
 ghost use Rattle.sis_table.specs.Volume.{IsTable};
 ghost use Rattle.sis_volume.specs.Stopping.{StopsWell};
-ghost use Rattle.sis_core.specs.Deciding.{Decides, IsDurable};
+ghost use Rattle.sis_core.specs.Deciding.{DecidesFor, IsDurable};
 ghost use Rattle.sis_core.specs.Session.{AreThere, ShowsWorld, session};
 
 use crate::changing::{read, set_size, write};
@@ -30,7 +30,7 @@ pub(crate) fn answer<D: Disk>(
     requires served { IsServed command.now }
     requires there { AreThere volume.old.table opens.old }
     ensures decides { (w : World) → ShowsWorld w (session volume.old opens.old)
-        → Decides w (session volume.old opens.old) (session volume.new opens.new) client
+        → DecidesFor w (session volume.old opens.old) (session volume.new opens.new) client
         command.now result }
     ensures stops { StopsWell volume.old volume.new }
     ensures durable { IsDurable volume.new command.now result }

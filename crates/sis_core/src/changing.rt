@@ -5,7 +5,7 @@ ghost use Rattle.sis_model.specs.declared.command.Command.TheVariants as asked;
 ghost use Rattle.sis_model.specs.declared.reply.Reply.TheVariants as reply;
 ghost use Rattle.sis_volume.specs.Stopping.{StopsWell};
 ghost use Rattle.sis_table.specs.Volume.{IsTable};
-ghost use Rattle.sis_core.specs.Deciding.{Decides};
+ghost use Rattle.sis_core.specs.Deciding.{DecidesFor};
 ghost use Rattle.sis_core.specs.Opens.{open_as};
 ghost use Rattle.sis_core.specs.Session.{AreThere, ShowsWorld, session};
 
@@ -33,7 +33,7 @@ pub(crate) fn read<D: Disk>(
     requires table { IsTable volume.old.table }
     requires there { AreThere volume.old.table opens.now }
     ensures decides { (w : World) → ShowsWorld w (session volume.old opens.now)
-        → Decides w (session volume.old opens.now) (session volume.new opens.now) client
+        → DecidesFor w (session volume.old opens.now) (session volume.new opens.now) client
         (asked.Read number range.at range.len) result }
     ensures stops { StopsWell volume.old volume.new }
 {
@@ -83,7 +83,7 @@ pub(crate) fn write<D: Disk>(
     requires table { IsTable volume.old.table }
     requires there { AreThere volume.old.table opens.now }
     ensures decides { (w : World) → ShowsWorld w (session volume.old opens.now)
-        → Decides w (session volume.old opens.now) (session volume.new opens.now) client
+        → DecidesFor w (session volume.old opens.now) (session volume.new opens.now) client
         (asked.Write number at bytes.now) result }
     ensures stops { StopsWell volume.old volume.new }
 {
@@ -114,7 +114,7 @@ pub(crate) fn set_size<D: Disk>(
     requires table { IsTable volume.old.table }
     requires there { AreThere volume.old.table opens.now }
     ensures decides { (w : World) → ShowsWorld w (session volume.old opens.now)
-        → Decides w (session volume.old opens.now) (session volume.new opens.now) client
+        → DecidesFor w (session volume.old opens.now) (session volume.new opens.now) client
         (asked.Size number len) result }
     ensures stops { StopsWell volume.old volume.new }
 {

@@ -4,7 +4,7 @@ ghost use Rattle.sis_model.specs.World.{World};
 ghost use Rattle.sis_model.specs.declared.command.Command.TheVariants as asked;
 ghost use Rattle.sis_volume.specs.Stopping.{StopsWell};
 ghost use Rattle.sis_table.specs.Volume.{IsTable};
-ghost use Rattle.sis_core.specs.Deciding.{Decides};
+ghost use Rattle.sis_core.specs.Deciding.{DecidesFor};
 ghost use Rattle.sis_core.specs.Session.{ShowsWorld, session};
 ghost use Rattle.sis_core.specs.declared.opens.Open.{Open as AnOpen};
 
@@ -29,7 +29,7 @@ pub(crate) fn put<D: Disk>(
     requires table { IsTable volume.old.table }
     ensures decides { (w : World) (opens : List AnOpen) (client : ℕ)
         → ShowsWorld w (session volume.old opens)
-        → Decides w (session volume.old opens) (session volume.new opens) client
+        → DecidesFor w (session volume.old opens) (session volume.new opens) client
         (asked.Put name.now bytes.now) result }
     ensures stops { StopsWell volume.old volume.new }
 {
@@ -59,7 +59,7 @@ pub(crate) fn remove<D: Disk>(
     requires table { IsTable volume.old.table }
     ensures decides { (w : World) (client : ℕ)
         → ShowsWorld w (session volume.old opens.now)
-        → Decides w (session volume.old opens.now) (session volume.new opens.now) client
+        → DecidesFor w (session volume.old opens.now) (session volume.new opens.now) client
         (asked.Remove name.now) result }
     ensures stops { StopsWell volume.old volume.new }
 {
@@ -90,7 +90,7 @@ pub(crate) fn rename<D: Disk>(
     requires table { IsTable volume.old.table }
     ensures decides { (w : World) (client : ℕ)
         → ShowsWorld w (session volume.old opens.now)
-        → Decides w (session volume.old opens.now) (session volume.new opens.now) client
+        → DecidesFor w (session volume.old opens.now) (session volume.new opens.now) client
         (asked.Rename old.now new.now) result }
     ensures stops { StopsWell volume.old volume.new }
 {

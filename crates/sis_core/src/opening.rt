@@ -4,7 +4,7 @@ ghost use Rattle.sis_model.specs.World.{World};
 ghost use Rattle.sis_model.specs.declared.command.Command.TheVariants as asked;
 ghost use Rattle.sis_volume.specs.Stopping.{StopsWell};
 ghost use Rattle.sis_table.specs.Volume.{IsTable};
-ghost use Rattle.sis_core.specs.Deciding.{Decides, IsDurable};
+ghost use Rattle.sis_core.specs.Deciding.{DecidesFor, IsDurable};
 ghost use Rattle.sis_core.specs.Opens.{fate_in};
 ghost use Rattle.sis_core.specs.Session.{ShowsWorld, session};
 
@@ -25,7 +25,7 @@ pub(crate) fn open<D: Disk>(
     requires up { volume.now.down ≡ None }
     requires table { IsTable volume.now.table }
     ensures { (w : World) → ShowsWorld w (session volume.now opens.old)
-        → Decides w (session volume.now opens.old) (session volume.now opens.new) client
+        → DecidesFor w (session volume.now opens.old) (session volume.now opens.new) client
         (asked.Open name.now writes) result }
 {
     if name.is_store() {
@@ -79,7 +79,7 @@ pub(crate) fn close<D: Disk>(
     requires up { volume.old.down ≡ None }
     requires table { IsTable volume.old.table }
     ensures decides { (w : World) → ShowsWorld w (session volume.old opens.old)
-        → Decides w (session volume.old opens.old) (session volume.new opens.new) client
+        → DecidesFor w (session volume.old opens.old) (session volume.new opens.new) client
         (asked.Close number) result }
     ensures stops { StopsWell volume.old volume.new }
     ensures durable { IsDurable volume.new (asked.Close number) result }

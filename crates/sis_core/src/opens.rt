@@ -1,8 +1,11 @@
 //! Which files are open, and whose opens they are.
-ghost use Rattle.std.specs.Prelude.{◌≡◌, ◌==◌, ◌≤◌, ◌++◌, ◌∷◌, [], not, length, filter, OnErr, OnOk};
+ghost use Rattle.std.specs.Prelude.{◌≡◌, ◌==◌, ◌≤◌, ◌++◌, ◌∷◌, [], not, length, filter, None, OnErr, OnOk};
 ghost use Rattle.std.specs.List.{list_any};
 ghost use Rattle.sis_core.specs.Opens.{free_number, has_file, has_other_writer, is_as, is_of, open_as};
 
+mod index;
+
+use crate::opens::index::Index;
 use std::alloc::{AllocError, Global};
 use std::marker::Model;
 
@@ -22,10 +25,11 @@ pub struct Open {
     pub writes: bool,
 }
 
-/// The opens of all clients, in the order in which they were opened.
+/// The opens of all clients, in the order in which they were opened, with an index of them.
 #[derive(Debug, Drop)]
 pub(crate) struct Opens {
     opens: Vec<Open>,
+    index: Index,
 }
 
 impl Open {
@@ -40,10 +44,13 @@ impl Open {
 impl Model for Opens {
     ghost use Rattle.std.specs.Prelude.{List};
     ghost use Rattle.sis_core.specs.declared.opens.Open.{Open};
+    ghost use Rattle.sis_core.specs.Opens.{IsIndex};
 
     ghost Value = { List Open };
 
     ghost view = { λ o. o.opens.items };
+
+    ghost invariant = { λ o. IsIndex o.opens.items o.index };
 }
 
 impl Opens {
@@ -53,6 +60,7 @@ impl Opens {
     {
         Opens {
             opens: Vec::new(alloc),
+            index: Index::new(alloc),
         }
     }
 
@@ -60,29 +68,21 @@ impl Opens {
     pub(crate) fn find(&self, client: u8, number: u64) -> Option<Open>
         ensures { result ≡ open_as client number self.now }
     {
-        for open in &self.opens {
-            if open.is_as(client, number) {
-                return Some(*open);
-            }
-        }
-        None
+        self.index.find(client, number)
     }
 
     // Whether the client has an open of this number.
     fn has(&self, client: u8, number: u64) -> bool
         ensures { result ≡ list_any (is_as client number) self.now }
     {
-        self.opens.iter().any(|open| open.is_as(client, number))
+        self.find(client, number).is_some()
     }
 
     /// How many opens the client has.
     pub(crate) fn count(&self, client: u8) -> u64
         ensures { result ≡ length (filter (is_of client) self.now) }
     {
-        self.opens
-            .iter()
-            .filter(|open| open.client == client)
-            .count() as u64
+        self.index.count(client)
     }
 
     /// The least number from 1 that the client has free, 0 where there is none.
@@ -101,24 +101,31 @@ impl Opens {
     pub(crate) fn has_file(&self, file: u64) -> bool
         ensures { result ≡ has_file file self.now }
     {
-        self.opens.iter().any(|open| open.file == file)
+        self.index.opens_in(file).opens > 0
     }
 
     /// Whether another open than this one may write its file.
     pub(crate) fn has_other_writer(&self, this: &Open) -> bool
         ensures { result ≡ has_other_writer this.now self.now }
     {
-        self.opens.iter().any(|open| {
-            open.file == this.file && open.writes && !open.is_as(this.client, this.number)
-        })
+        // This open is one of the file's writers itself, where it may write.
+        let own = match self.find(this.client, this.number) {
+            Some(open) if open.file == this.file && open.writes => 1,
+            _ => 0,
+        };
+        self.index.opens_in(this.file).writers > own
     }
 
-    /// Adds an open.
+    /// Adds an open, under a number that the client has free.
     pub(crate) fn add(&mut self, this: Open) -> Result<(), AllocError>
+        requires { open_as this.client this.number self.old ≡ None }
         ensures ok { OnOk result (self.new ≡ self.old ++ this ∷ []) }
         ensures err { OnErr result (self.new ≡ self.old) }
     {
-        self.opens.push(this)?;
+        self.opens.reserve(1)?;
+        self.index.enter(this)?;
+        // There is room for it.
+        let _ = self.opens.push(this);
         Ok(())
     }
 
@@ -126,13 +133,17 @@ impl Opens {
     pub(crate) fn drop_one(&mut self, client: u8, number: u64)
         ensures { self.new ≡ filter (λ o. not (is_as client number o)) self.old }
     {
-        self.opens.retain(|open| !open.is_as(client, number));
+        if let Some(open) = self.find(client, number) {
+            self.index.leave(&open);
+            self.opens.retain(|open| !open.is_as(client, number));
+        }
     }
 
     /// Drops all opens of the client. Takes no memory.
     pub(crate) fn drop_client(&mut self, client: u8)
         ensures { self.new ≡ filter (λ o. not (is_of client o)) self.old }
     {
+        self.index.leave_all(&self.opens, client);
         self.opens.retain(|open| open.client != client);
     }
 }

@@ -1,13 +1,13 @@
 //! Runs the lines of a script by turns.
-ghost use Rattle.std.specs.Prelude.{◌≡◌, ◌+◌, ◌<◌, ◌≤◌, ◌++◌, ◌∷◌, [], ℕ, List, All, true, false, length, map};
+ghost use Rattle.std.specs.Prelude.{◌≡◌, ◌+◌, ◌<◌, ◌≤◌, ◌∷◌, [], ℕ, List, All, true, false, length};
 ghost use Rattle.sis_history.specs.Replies.{IsServed};
-ghost use Rattle.sis_model.specs.Order.{IsTurnOrder, TakeOneTurn, calls_of, exec_order, expected_calls, line_of, most_clients, up_to_client, without_ends};
+ghost use Rattle.sis_model.specs.Order.{exec_order, most_clients, up_to_client};
 ghost use Rattle.sis_model.specs.declared.history.Line.{Line as ALine};
 ghost use Rattle.sis_core.specs.Jobs.{AreIdle, IsClient};
 ghost use Rattle.sis_core.specs.Rest.{IsReady, left};
 ghost use Rattle.sis_core.specs.Sound.{IsSound};
 ghost use Rattle.sis_core.specs.Steps.{IsSaved};
-ghost use Rattle.sis_core.specs.Turns.{HadTurns};
+ghost use Rattle.sis_core.specs.Turns.{AddsTurns, HadTurns};
 ghost use Rattle.sis_core.specs.View.{opening_of};
 
 use crate::Core;
@@ -76,20 +76,14 @@ impl<D: Disk, G: Guids> Core<D, G> {
     /// Runs lines by turns. A turn of a client begins its next command and answers it; a client's
     /// commands are its lines and then its end. The schedule's clients have turns first, and then
     /// all in rising order, round and round until all is done. A number that is no client's, and a
-    /// client that has nothing left, are passed over. Each command gets its entry, whatever the
-    /// memory.
+    /// client that has nothing left, are passed over. Each command gets its entry behind those of
+    /// before, whatever the memory.
     pub fn replay(&mut self, lines: Vec<Line>, schedule: &[u8])
         requires clients { All (λ l. IsClient l.client) lines.items }
         requires served { All (λ l. IsServed l.command) lines.items }
         requires room { length (exec_order lines.items) ≤ self.old.spare }
         requires idle { AreIdle self.old.jobs }
-        ensures calls { (client : ℕ) → IsClient client → calls_of self.new.entries client
-            ≡ calls_of self.old.entries client ++ expected_calls lines.items client }
-        // Where each line takes one turn, they stand in the order of the turns.
-        ensures order { TakeOneTurn lines.items → (order : List ALine)
-            × IsTurnOrder lines.items schedule.now order
-            × (without_ends (map line_of self.new.entries)
-            ≡ without_ends (map line_of self.old.entries) ++ order) }
+        ensures kept { AddsTurns self.old.entries self.new.entries lines.items schedule.now }
         ensures lines { length self.new.entries
             ≡ length self.old.entries + length (exec_order lines.items) }
         ensures opening { opening_of self.new ≡ opening_of self.old }

@@ -1,10 +1,11 @@
 //! Runs the lines of a script: each to its answer.
-ghost use Rattle.std.specs.Prelude.{◌≡◌, ◌+◌, ◌<◌, ◌≤◌, ◌++◌, ◌∷◌, ◌^◌, [], ℕ, All, length, map, slice_index_or, true};
+ghost use Rattle.std.specs.Prelude.{◌≡◌, ◌+◌, ◌<◌, ◌≤◌, ◌∷◌, ◌^◌, [], ℕ, All, length, slice_index_or, true};
 ghost use Rattle.sis_history.specs.Replies.{IsServed};
-ghost use Rattle.sis_model.specs.Order.{commands_of, exec_order, is_end, line_of};
+ghost use Rattle.sis_model.specs.Order.{commands_of, exec_order, is_end};
 ghost use Rattle.sis_core.specs.Jobs.{AreIdle, IsClient};
 ghost use Rattle.sis_core.specs.Sound.{IsSound};
 ghost use Rattle.sis_core.specs.Steps.{IsSaved};
+ghost use Rattle.sis_core.specs.Turns.{AddsLines};
 ghost use Rattle.sis_core.specs.View.{opening_of};
 
 use crate::{Core, Turn};
@@ -33,8 +34,8 @@ impl<D: Disk, G: Guids> Core<D, G> {
         requires idle { AreIdle self.old.jobs }
         requires served { IsServed command }
         requires room { 1 ≤ self.old.spare }
-        ensures lines { map line_of self.new.entries ≡ map line_of self.old.entries
-            ++ record { client = client; command = command } ∷ [] }
+        ensures kept { AddsLines self.old.entries self.new.entries
+            (record { client = client; command = command } ∷ []) }
         ensures idle { AreIdle self.new.jobs }
         ensures spare { self.old.spare ≤ self.new.spare + 1 }
         ensures opening { opening_of self.new ≡ opening_of self.old }
@@ -50,14 +51,13 @@ impl<D: Disk, G: Guids> Core<D, G> {
     }
 
     /// Runs lines in order, each to its answer, and each client's end right after its last line.
-    /// Each gets its entry, whatever the memory.
+    /// Each gets its entry behind those of before, whatever the memory.
     pub fn exec(&mut self, lines: Vec<Line>)
         requires clients { All (λ l. IsClient l.client) lines.items }
         requires served { All (λ l. IsServed l.command) lines.items }
         requires room { length (exec_order lines.items) ≤ self.old.spare }
         requires idle { AreIdle self.old.jobs }
-        ensures order { map line_of self.new.entries
-            ≡ map line_of self.old.entries ++ exec_order lines.items }
+        ensures kept { AddsLines self.old.entries self.new.entries (exec_order lines.items) }
         ensures idle { AreIdle self.new.jobs }
         ensures opening { opening_of self.new ≡ opening_of self.old }
         ensures saved { IsSaved self.old → IsSaved self.new }

@@ -4,7 +4,7 @@ ghost use Rattle.sis_model.specs.World.{World};
 ghost use Rattle.sis_model.specs.declared.command.Command.TheVariants as asked;
 ghost use Rattle.sis_volume.specs.Stopping.{StopsWell};
 ghost use Rattle.sis_table.specs.Volume.{IsTable};
-ghost use Rattle.sis_core.specs.Deciding.{Decides, IsDurable};
+ghost use Rattle.sis_core.specs.Deciding.{DecidesFor, IsDurable};
 ghost use Rattle.sis_core.specs.Session.{ShowsWorld, session};
 ghost use Rattle.sis_core.specs.declared.opens.Open.{Open as AnOpen};
 
@@ -20,7 +20,7 @@ pub(crate) fn sync<D: Disk>(volume: &mut Volume<D>) -> Reply
     requires table { IsTable volume.old.table }
     ensures decides { (w : World) (opens : List AnOpen) (client : ℕ)
         → ShowsWorld w (session volume.old opens)
-        → Decides w (session volume.old opens) (session volume.new opens) client
+        → DecidesFor w (session volume.old opens) (session volume.new opens) client
         asked.Sync result }
     ensures stops { StopsWell volume.old volume.new }
     ensures durable { IsDurable volume.new asked.Sync result }
@@ -41,7 +41,7 @@ pub(crate) fn end<D: Disk>(
     requires up { volume.old.down ≡ None }
     requires table { IsTable volume.old.table }
     ensures decides { (w : World) → ShowsWorld w (session volume.old opens.old)
-        → Decides w (session volume.old opens.old) (session volume.new opens.new) client
+        → DecidesFor w (session volume.old opens.old) (session volume.new opens.new) client
         asked.End result }
     ensures stops { StopsWell volume.old volume.new }
     ensures durable { IsDurable volume.new asked.End result }

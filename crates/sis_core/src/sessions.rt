@@ -1,6 +1,7 @@
 //! The core: a volume, the history of what was decided on it, and each client's job.
 ghost use Rattle.std.specs.Prelude.{◌≡◌, ◌≤◌, ◌<◌, ◌^◌, ℕ, false, length, None, IfOk, IfErr, IfSome, OnOk};
 ghost use Rattle.sis_disk.specs.Record.{live_of};
+ghost use Rattle.sis_history.specs.Runs.{AreOfClients};
 ghost use Rattle.sis_journal.specs.Opening.{Caused, CountsFault, IsSynced, SyncThenReads};
 ghost use Rattle.sis_table.specs.Image.{image_at, Holds};
 ghost use Rattle.sis_volume.specs.Opening.{FailsAs};
@@ -114,6 +115,7 @@ impl<D: Disk, G: Guids> Core<D, G> {
     /// What was decided. Takes no memory.
     pub fn history(&self) -> &History
         ensures entries { result.now.entries ≡ self.now.entries }
+        ensures clients { AreOfClients self.now.entries }
         ensures spare { result.now.spare ≡ self.now.spare }
         ensures sound { IsSound self.now }
     {

@@ -11,7 +11,7 @@ ghost use Rattle.sis_table.specs.Good.{IsGood};
 ghost use Rattle.sis_table.specs.Volume.{IsTable};
 ghost use Rattle.sis_volume.specs.Stopping.{StopsWell};
 ghost use Rattle.sis_core.specs.declared.job.Job.TheVariants as job;
-ghost use Rattle.sis_core.specs.Deciding.{Decides, IsDurable};
+ghost use Rattle.sis_core.specs.Deciding.{DecidesFor, IsDurable};
 ghost use Rattle.sis_core.specs.Jobs.{IsClient, count_jobs};
 ghost use Rattle.sis_core.specs.Session.{AreThere, FitsArea, ShowsWorld, session};
 ghost use Rattle.sis_core.specs.Sound.{IsSound};
@@ -58,8 +58,10 @@ fn make_room(history: &mut History, jobs: &[Option<Job>]) -> Result<(), AllocErr
     history.reserve(owed + 1)
 }
 
-// The reply twice, for the client and for the history. Where there is no memory for that, the
-// command has changed nothing, and is answered so.
+// The reply twice, for the client and for the history. A copy takes memory where the reply has
+// bytes, names or unsettled files; no command leaves such files so far. Where it finds no memory,
+// the reply is dropped, and both are want of memory in its place. The command was then a read or a
+// list, which had changed no file and no open.
 fn twice(alloc: Global, reply: Reply) -> (Reply, Reply)
     ensures both { result.1 ≡ result.0 }
     ensures reply { (result.0 ≡ reply)
@@ -91,7 +93,7 @@ fn decide<D: Disk>(
     requires there { AreThere volume.old.table opens.old }
     requires spare { 0 < history.old.spare }
     ensures decides { (w : World) → ShowsWorld w (session volume.old opens.old)
-        → Decides w (session volume.old opens.old) (session volume.new opens.new) client
+        → DecidesFor w (session volume.old opens.old) (session volume.new opens.new) client
         command result }
     ensures stops { StopsWell volume.old volume.new }
     ensures durable { IsDurable volume.new command result }
@@ -148,8 +150,7 @@ impl<D: Disk, G: Guids> Core<D, G> {
 
     /// A step of a client's job.
     pub fn step(&mut self, client: u8) -> Turn
-        requires client { IsClient client }
-        requires job { job_of self.old.jobs client ≢ None }
+        requires { job_of self.old.jobs client ≢ None }
         ensures steps { Steps self.old client result self.new }
         ensures sound { IsSound self.new }
     {

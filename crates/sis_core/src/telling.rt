@@ -5,7 +5,7 @@ ghost use Rattle.sis_model.specs.Answer.{most_names};
 ghost use Rattle.sis_model.specs.World.{World};
 ghost use Rattle.sis_model.specs.declared.command.Command.TheVariants as asked;
 ghost use Rattle.sis_table.specs.Volume.{IsTable, names_after, node_named};
-ghost use Rattle.sis_core.specs.Deciding.{Decides};
+ghost use Rattle.sis_core.specs.Deciding.{DecidesFor};
 ghost use Rattle.sis_core.specs.Session.{ShowsWorld, session};
 ghost use Rattle.sis_core.specs.declared.opens.Open.{Open as AnOpen};
 
@@ -34,7 +34,7 @@ pub(crate) fn stat<D: Disk>(volume: &Volume<D>, name: &Name) -> Reply
     requires table { IsTable volume.now.table }
     ensures { (w : World) (opens : List AnOpen) (client : ℕ)
         → ShowsWorld w (session volume.now opens)
-        → Decides w (session volume.now opens) (session volume.now opens) client
+        → DecidesFor w (session volume.now opens) (session volume.now opens) client
         (asked.Stat name.now) result }
 {
     if name.is_store() {
@@ -76,7 +76,7 @@ pub(crate) fn list<D: Disk>(volume: &Volume<D>, alloc: Global, after: Option<&Na
     requires table { IsTable volume.now.table }
     ensures { (w : World) (opens : List AnOpen) (client : ℕ)
         → ShowsWorld w (session volume.now opens)
-        → Decides w (session volume.now opens) (session volume.now opens) client
+        → DecidesFor w (session volume.now opens) (session volume.now opens) client
         (asked.List (option_copied after.entry)) result }
 {
     match first_names(volume, alloc, after) {
@@ -93,7 +93,7 @@ pub(crate) fn space<D: Disk>(volume: &Volume<D>) -> Reply
     requires table { IsTable volume.now.table }
     ensures { (w : World) (opens : List AnOpen) (client : ℕ)
         → ShowsWorld w (session volume.now opens)
-        → Decides w (session volume.now opens) (session volume.now opens) client
+        → DecidesFor w (session volume.now opens) (session volume.now opens) client
         asked.Space result }
 {
     Reply::Space {

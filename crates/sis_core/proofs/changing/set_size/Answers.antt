@@ -1,11 +1,11 @@
 use Rattle.std.proofs.Common.{refl}
-use Rattle.std.specs.Prelude.{Ok, Err}
+use Rattle.std.specs.Prelude.{Ok, Err, ⊤}
 use Rattle.sis_model.specs.declared.command.Command.TheVariants as asked
 use Rattle.sis_table.specs.Volume.{node_with}
 use Rattle.sis_volume.specs.Stopping.{StopsWell}
 use Rattle.sis_core.specs.Session.{session}
 use Rattle.sis_core.proofs.Opened.{at_node, is_opened, open_file, there_says}
-use Rattle.sis_core.proofs.Changed.{Sizes, not_writer, size_too_much, sized_err, sized_ok}
+use Rattle.sis_core.proofs.Changed.{Sizes, Stays, not_writer, size_too_much, sized_err, sized_ok}
 use Rattle.sis_core.proofs.changing.set_size.Goals as goal
 
 pub returns-in-Err-clause-decides : goal.returns-in-Err-clause-decides
@@ -39,7 +39,11 @@ returns-in-Ok-set_size-clause-decides g c = λ w shows.
     (at_node (Sizes c.args.len (Ok c.in-Ok-set_size.field-0) c.args.volume.now
     c.set_size.new.volume)
     (node_with c.args.volume.now.table c.in-Ok.this.file) is.0 (is.1).there
-    c.in-Ok-set_size.ensures.leaves) refl
+    c.in-Ok-set_size.ensures.leaves)
+    (at_node (Stays {T = ⊤} c.args.len (Ok c.in-Ok-set_size.field-0) c.args.volume.now
+    c.set_size.new.volume)
+    (node_with c.args.volume.now.table c.in-Ok.this.file) is.0 (is.1).there
+    c.in-Ok-set_size.ensures.nothing) refl
 
 pub returns-in-Ok-set_size-clause-stops : goal.returns-in-Ok-set_size-clause-stops
 returns-in-Ok-set_size-clause-stops g c =
@@ -59,7 +63,11 @@ returns-in-Err-set_size-clause-decides g c = λ w shows.
     c.in-Err-set_size.by c.set_size.new.volume
     (at_node (Sizes c.args.len (Err c.in-Err-set_size.by) c.args.volume.now c.set_size.new.volume)
     (node_with c.args.volume.now.table c.in-Ok.this.file) is.0 (is.1).there
-    c.in-Err-set_size.ensures.leaves) refl
+    c.in-Err-set_size.ensures.leaves)
+    (at_node (Stays {T = ⊤} c.args.len (Err c.in-Err-set_size.by) c.args.volume.now
+    c.set_size.new.volume)
+    (node_with c.args.volume.now.table c.in-Ok.this.file) is.0 (is.1).there
+    c.in-Err-set_size.ensures.nothing) refl
 
 pub returns-in-Err-set_size-clause-stops : goal.returns-in-Err-set_size-clause-stops
 returns-in-Err-set_size-clause-stops g c =

@@ -55,7 +55,7 @@ returns-in-Ok-write-clause-decides g c = λ w shows.
     (at_node (Writes c.args.at c.as_slice-2.result.now (Ok c.in-Ok-write.field-0)
     c.args.volume.now c.write.new.volume)
     (node_with c.args.volume.now.table c.in-Ok.this.file) is.0 (is.1).there
-    c.in-Ok-write.ensures.leaves) refl)
+    c.in-Ok-write.ensures.leaves) c.in-Ok-write.ensures.nothing refl)
 
 pub returns-in-Ok-write-clause-stops : goal.returns-in-Ok-write-clause-stops
 returns-in-Ok-write-clause-stops g c =
@@ -82,7 +82,7 @@ returns-in-Err-write-clause-decides g c = λ w shows.
     (at_node (Writes c.args.at c.as_slice-2.result.now (Err c.in-Err-write.by) c.args.volume.now
     c.write.new.volume)
     (node_with c.args.volume.now.table c.in-Ok.this.file) is.0 (is.1).there
-    c.in-Err-write.ensures.leaves) refl)
+    c.in-Err-write.ensures.leaves) c.in-Err-write.ensures.nothing refl)
 
 pub returns-in-Err-write-clause-stops : goal.returns-in-Err-write-clause-stops
 returns-in-Err-write-clause-stops g c =

@@ -1,4 +1,4 @@
-use Rattle.std.proofs.Common.{◌≡◌, ℕ, false, true, is_some, Option, Some, ap, refl, sym, ◌∙◌}
+use Rattle.std.proofs.Common.{◌≡◌, ◌<◌, ℕ, false, true, is_some, filter, length, None, Option, Some, ap, arith, refl, subst, sym, ◌∙◌}
 use Rattle.sis_model.specs.Answer.{refusal_of}
 use Rattle.sis_model.specs.World.{bytes_of}
 use Rattle.sis_model.specs.declared.command.Command.TheVariants as command
@@ -6,9 +6,10 @@ use Rattle.sis_model.specs.declared.reply.Hindrance.TheVariants as hindrance
 use Rattle.sis_model.specs.declared.reply.LimitKind.TheVariants as limit
 use Rattle.sis_model.specs.declared.reply.Reply.TheVariants as reply
 use Rattle.sis_name.specs.Units.{is_store_name}
+use Rattle.sis_core.specs.Opens.{is_of, open_as}
 use Rattle.sis_core.specs.Session.{session}
 use Rattle.sis_core.proofs.Named.{found_in}
-use Rattle.sis_core.proofs.OpensLemmas.{full_count, low_count, opened_decides}
+use Rattle.sis_core.proofs.OpensLemmas.{free_there, full_count, low_count, opened_decides}
 use Rattle.sis_core.proofs.Operated.{refused}
 use Rattle.sis_core.proofs.Told.{short_told}
 use Rattle.sis_core.proofs.opening.open.Goals as goal
@@ -51,6 +52,14 @@ returns-then-count-ge-MOST_OPENS g c w shows =
     refused w s c.args.client (command.Open c.args.name.now c.args.writes)
     (reply.Hindered (hindrance.Limit limit.Opens)) shows c.requires.up refusal refl refl refl
     refusal (λ fresh jobs later next. tt)
+
+-- the client has fewer than 64 opens, so one of the numbers up to it is free
+pub add-requires : goal.add-requires
+add-requires g c =
+    let few : length (filter (is_of c.args.client) c.args.opens.now) < 64 =
+    omega (arith, c.count.ensures, c.if-count-ge-MOST_OPENS.false) in
+    subst (λ (n : ℕ). open_as c.args.client n c.args.opens.now ≡ None)
+    (sym c.free_number-number.ensures) (free_there c.args.client c.args.opens.now few)
 
 pub returns-in-Ok : goal.returns-in-Ok
 returns-in-Ok g c w shows =

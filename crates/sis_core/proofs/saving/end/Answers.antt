@@ -18,6 +18,8 @@ returns-clause-decides g c w shows =
       quiet = c.commit.ensures.quiet;
       files = c.commit.ensures.files;
       elapses = c.commit.ensures.elapses;
+      calls = c.commit.ensures.calls;
+      number = c.commit.ensures.number;
     })
 
 pub returns-in-Err-clause-decides : goal.returns-in-Err-clause-decides
@@ -33,6 +35,8 @@ returns-in-Err-clause-decides g c w shows =
       quiet = c.commit.ensures.quiet;
       files = c.commit.ensures.files;
       elapses = c.commit.ensures.elapses;
+      calls = c.commit.ensures.calls;
+      number = c.commit.ensures.number;
     })
 
 pub returns-clause-stops : goal.returns-clause-stops

@@ -16,6 +16,8 @@ returns-in-Ok-clause-decides g c w opens client shows =
       quiet = c.commit.ensures.quiet;
       files = c.commit.ensures.files;
       elapses = c.commit.ensures.elapses;
+      calls = c.commit.ensures.calls;
+      number = c.commit.ensures.number;
     })
 
 pub returns-in-Err-clause-decides : goal.returns-in-Err-clause-decides
@@ -31,6 +33,8 @@ returns-in-Err-clause-decides g c w opens client shows =
       quiet = c.commit.ensures.quiet;
       files = c.commit.ensures.files;
       elapses = c.commit.ensures.elapses;
+      calls = c.commit.ensures.calls;
+      number = c.commit.ensures.number;
     })
 
 pub returns-in-Ok-clause-stops : goal.returns-in-Ok-clause-stops

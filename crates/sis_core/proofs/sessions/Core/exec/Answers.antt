@@ -1,12 +1,37 @@
-use Rattle.std.proofs.Common.{◌∙◌, ◌-◌, refl, arith, map}
+use Rattle.std.proofs.Common.{◌∙◌, ◌-◌, refl, rules, arith}
 use Rattle.std.specs.Prelude.{slice_index_or}
 use Rattle.std.proofs.lemmas.List.{length-set}
 use Rattle.sis_history.specs.Replies.{IsServed}
-use Rattle.sis_model.specs.Order.{line_of}
 use Rattle.sis_core.specs.Jobs.{IsClient}
 use Rattle.sis_core.specs.Steps.{IsSaved}
-use Rattle.sis_core.proofs.ExecLemmas.{counted_rest, has_more, is_last, last_all, low_client, one_at_least, order_last, order_more, rest_all, room_last, room_more, some_left}
+use Rattle.sis_core.proofs.ExecLemmas.{counted_all, counted_rest, front_last, front_more, front_none, has_more, is_last, last_all, low_client, one_at_least, rest_all, room_all, room_last, room_more, some_left}
 use Rattle.sis_core.proofs.sessions.Core.exec.Goals as goal
+
+pub loop-client-init : goal.loop-client-init
+loop-client-init g c = record {
+  clients = search rules;
+  served = search rules;
+  counted =
+      counted_all c.lines_by_client-left.result c.reverse.new.self.items c.args.lines.items
+      c.deref.result.now c.reverse.ensures.items c.deref.ensures.value
+      c.lines_by_client-left.ensures.counts;
+  size = search rules;
+  room =
+      room_all c.reverse.new.self.items c.args.lines.items c.args.self.now.spare
+      c.reverse.ensures.items c.requires.room;
+  idle = search rules;
+  ran =
+      front_none c.args.self.now.entries c.reverse.new.self.items c.args.lines.items
+      c.reverse.ensures.items;
+  opening = search rules;
+  saved = search rules;
+  sound = search rules;
+}
+
+pub bounds-left-client : goal.bounds-left-client
+bounds-left-client g c =
+    low_client c.loop-client.rest.items c.pop.new.self.items c.in-Some.field-0
+    c.in-Some.ensures.items c.loop-client.invariant.clients
 
 pub overflow_sub-left : goal.overflow_sub-left
 overflow_sub-left g c =
@@ -81,12 +106,12 @@ loop-client-preserved-then-left-client-eq0 g c =
           c.loop-client.invariant.room c.run_one.ensures.spare in
           omega (arith, left, c.run_one-then-left-client-eq0.ensures.spare);
       idle = c.run_one-then-left-client-eq0.ensures.idle;
-      order =
-          order_last c.loop-client.rest.items c.pop.new.self.items
-          (map line_of c.loop-client.self.entries) (map line_of c.run_one.new.self.entries)
-          (map line_of c.run_one-then-left-client-eq0.new.self.entries) c.in-Some.field-0 _
-          items last c.run_one.ensures.lines c.run_one-then-left-client-eq0.ensures.lines
-          c.loop-client.invariant.order;
+      ran =
+          front_last c.args.self.now.entries c.loop-client.self.entries
+          c.run_one.new.self.entries c.run_one-then-left-client-eq0.new.self.entries
+          c.loop-client.rest.items c.pop.new.self.items c.in-Some.field-0 _ items last
+          c.run_one.ensures.kept c.run_one-then-left-client-eq0.ensures.kept
+          c.loop-client.invariant.ran;
       opening =
           c.run_one-then-left-client-eq0.ensures.opening ∙ c.run_one.ensures.opening
           ∙ c.loop-client.invariant.opening;
@@ -124,10 +149,10 @@ loop-client-preserved g c =
           c.loop-client.self.spare c.run_one.new.self.spare items more
           c.loop-client.invariant.room c.run_one.ensures.spare;
       idle = c.run_one.ensures.idle;
-      order =
-          order_more c.loop-client.rest.items c.pop.new.self.items
-          (map line_of c.loop-client.self.entries) (map line_of c.run_one.new.self.entries)
-          c.in-Some.field-0 _ items more c.run_one.ensures.lines c.loop-client.invariant.order;
+      ran =
+          front_more c.args.self.now.entries c.loop-client.self.entries
+          c.run_one.new.self.entries c.loop-client.rest.items c.pop.new.self.items
+          c.in-Some.field-0 _ items more c.run_one.ensures.kept c.loop-client.invariant.ran;
       opening = c.run_one.ensures.opening ∙ c.loop-client.invariant.opening;
       saved = λ none was.
           some_left c.pop.new.self.items c.in-Some.field-0.client (IsSaved c.run_one.new.self)

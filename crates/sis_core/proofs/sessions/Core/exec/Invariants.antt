@@ -1,11 +1,12 @@
-use Rattle.std.proofs.Common.{◌≡◌, ◌≤◌, ◌++◌, [], length, map}
+use Rattle.std.proofs.Common.{◌≡◌, ◌≤◌, [], length}
 use Rattle.std.specs.Prelude.{All, reverse}
 use Rattle.sis_history.specs.Replies.{IsServed}
-use Rattle.sis_model.specs.Order.{exec_order, line_of}
+use Rattle.sis_model.specs.Order.{exec_order}
 use Rattle.sis_core.specs.Jobs.{AreIdle, IsClient}
 use Rattle.sis_core.specs.Sound.{IsSound}
 use Rattle.sis_core.specs.Steps.{IsSaved}
 use Rattle.sis_core.specs.View.{opening_of}
+use Rattle.sis_core.proofs.ExecLemmas.{RanFront}
 use Rattle.sis_core.proofs.LineLemmas.{AreCounted}
 use Rattle.sis_core.proofs.sessions.Core.exec.Given as goal
 
@@ -18,8 +19,7 @@ invariant-loop-client g l = record {
   size : length l.left ≡ 17;
   room : length (exec_order (reverse l.rest.items)) ≤ l.self.spare;
   idle : AreIdle l.self.jobs;
-  order : map line_of l.self.entries ++ exec_order (reverse l.rest.items)
-      ≡ map line_of l.fn.self.entries ++ exec_order l.fn.lines.items;
+  ran : RanFront l.fn.self.entries l.self.entries l.rest.items (exec_order l.fn.lines.items);
   opening : opening_of l.self ≡ opening_of l.fn.self;
   saved : l.rest.items ≡ [] → IsSaved l.fn.self → IsSaved l.self;
   sound : IsSound l.self;

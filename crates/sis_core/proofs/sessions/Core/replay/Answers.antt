@@ -3,7 +3,7 @@ use Rattle.std.proofs.lemmas.List.{take_all, take_more}
 use Rattle.sis_model.specs.Order.{exec_order, remaining, rounds}
 use Rattle.sis_core.specs.Sound.{IsSound}
 use Rattle.sis_core.specs.Turns.{HadTurns}
-use Rattle.sis_core.proofs.TurnLemmas.{ends_exec_order, fewer_to_come, had_calls, had_none, had_order, had_round, had_size, had_then, none_remains, ready_at_start}
+use Rattle.sis_core.proofs.TurnLemmas.{ends_exec_order, fewer_to_come, had_all, had_none, had_round, had_size, had_then, none_remains, ready_at_start}
 use Rattle.sis_core.proofs.sessions.Core.replay.Goals as goal
 
 pub loop-client-init : goal.loop-client-init
@@ -76,8 +76,8 @@ loop-preserved g c =
       sound = c.round.ensures.sound c.loop.invariant.sound;
     }
 
-pub returns-clause-calls : goal.returns-clause-calls
-returns-clause-calls g c = λ client is.
+pub returns-clause-kept : goal.returns-clause-kept
+returns-clause-kept g c =
     let sofar = c.loop.invariant.turns in
     let ls = exec_order c.args.lines.items in
     let turns = c.args.schedule.now ++ rounds (suc sofar.0) in
@@ -86,24 +86,10 @@ returns-clause-calls g c = λ client is.
     c.args.schedule.now sofar.0 sofar.1
     (c.round.ensures.turns (remaining ls (c.args.schedule.now ++ rounds sofar.0))
     sofar.1.ready) in
-    had_calls c.args.self.now c.round.new.self c.args.lines.items c.round.new.rest turns client
-    had (none_remains c.args.self.now c.round.new.self ls c.round.new.rest turns had
-    (c.round.ensures.done c.loop-test.false))
-
-pub returns-clause-order : goal.returns-clause-order
-returns-clause-order g c = λ once.
-    let sofar = c.loop.invariant.turns in
-    let ls = exec_order c.args.lines.items in
-    let turns = c.args.schedule.now ++ rounds (suc sofar.0) in
-    let had =
-    had_round c.args.self.now c.loop.self c.round.new.self ls c.loop.rest c.round.new.rest
-    c.args.schedule.now sofar.0 sofar.1
-    (c.round.ensures.turns (remaining ls (c.args.schedule.now ++ rounds sofar.0))
-    sofar.1.ready) in
-    had_order c.args.self.now c.round.new.self c.args.lines.items c.round.new.rest
+    had_all c.args.self.now c.round.new.self c.args.lines.items c.round.new.rest
     c.args.schedule.now (suc sofar.0) had
     (none_remains c.args.self.now c.round.new.self ls c.round.new.rest turns had
-    (c.round.ensures.done c.loop-test.false)) once
+    (c.round.ensures.done c.loop-test.false))
 
 pub returns-clause-lines : goal.returns-clause-lines
 returns-clause-lines g c =

@@ -15,5 +15,5 @@ pub returns-in-Some-clause-turn : goal.returns-in-Some-clause-turn
 returns-in-Some-clause-turn g c = λ lines ready.
     had_moved c.args.self.now c.run_one.new.self c.args.rest.now c.take.new.self lines
     c.args.client c.in-Some.command c.requires.client c.in-Some.ensures.some
-    c.in-Some.ensures.others ready c.run_one.ensures.lines c.run_one.ensures.idle
+    c.in-Some.ensures.others ready c.run_one.ensures.kept c.run_one.ensures.idle
     c.run_one.ensures.spare c.run_one.ensures.opening c.run_one.ensures.saved
