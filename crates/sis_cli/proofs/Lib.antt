@@ -3,8 +3,6 @@ pub mod Defects
 pub mod Early
 pub mod Hands
 pub mod Lines
-pub mod RanLines
+pub mod Ran
 pub mod Reopening
-pub mod ServeLemmas
-pub mod Surviving
 pub mod WordLemmas

@@ -1,5 +1,6 @@
 -- What a run may answer, and what it leaves.
-use Rattle.std.specs.Prelude.{◌≡◌, ◌≢◌, ◌⊎◌, ℕ, ◌*◌, false, List, [], map, Option, Some, None, IfSome, Result, Ok, Err, ⊤, true, All, ◌+◌, ◌≤◌}
+use Rattle.std.specs.Prelude.{◌≡◌, ◌≢◌, ◌⊎◌, ℕ, ◌*◌, ◌+◌, ◌≤◌, true, false, List, [], map, All, ⊤}
+use Rattle.std.specs.Prelude.{Option, Some, None, IfSome, Result, Ok, Err}
 use Rattle.std.specs.Option.{option_map}
 use Rattle.sis_disk.specs.Record.{DiskRecord, Seen, Rose, laid, live_of}
 use Rattle.sis_disk.specs.declared.layout.Layout.{Layout}
@@ -7,7 +8,8 @@ use Rattle.sis_disk.specs.declared.layout.ImageKind.TheVariants as image
 use Rattle.sis_disk.specs.Streams.{Appended, AppendedFront}
 use Rattle.sis_model.specs.World.{World}
 use Rattle.sis_model.specs.History.{IsLegal, world_after}
-use Rattle.sis_model.specs.Order.{IsTurnOrder, TakeOneTurn, calls_of, exec_order, expected_calls, line_of, without_ends}
+use Rattle.sis_model.specs.Order.{IsTurnOrder, TakeOneTurn, without_ends}
+use Rattle.sis_model.specs.Order.{calls_of, exec_order, expected_calls, line_of}
 use Rattle.sis_model.specs.declared.history.Entry.{Entry}
 use Rattle.sis_model.specs.declared.history.Line.{Line}
 use Rattle.sis_script.specs.Printed.{printed}
@@ -27,10 +29,7 @@ use Rattle.sis_history.specs.Stage.{Stage}
 use Rattle.sis_history.specs.Stops.{AreInOrder, SurvivesStops}
 use Rattle.sis_journal.specs.Opening.{IsSynced, SyncThenReads}
 use Rattle.sis_journal.specs.Formatting.{EndsInSync, new_blocks}
-use Rattle.sis_core.specs.Jobs.{AreIdle}
 use Rattle.sis_core.specs.Opening.{Starts}
-use Rattle.sis_core.specs.Sound.{IsSound}
-use Rattle.sis_core.specs.View.{CoreView, opening_of}
 use Rattle.sis_cli.specs.Words.{Words, Fault}
 use Rattle.sis_cli.specs.Exit.{risen, length_at}
 use Rattle.sis_cli.specs.Stops.{SyncsAt}
@@ -41,16 +40,16 @@ use Rattle.sis_cli.specs.declared.exit.Exit.TheVariants as exit
 
 -- ---- verbs
 
--- P holds of the verbs that run a script, and Q of `format`
-abbrev pub IsExec : Verb → Type 0 → Type 0 → Type 0
-IsExec verb.Exec P Q = P
-IsExec verb.Replay P Q = P
-IsExec verb.Format P Q = Q
+-- P for the verbs that run a script, and Q for `format`
+abbrev pub ScriptOrFormat : Verb → Type 0 → Type 0 → Type 0
+ScriptOrFormat verb.Exec P Q = P
+ScriptOrFormat verb.Replay P Q = P
+ScriptOrFormat verb.Format P Q = Q
 
--- P holds where the words ask for a script to be run, and else Q
-abbrev pub IfExec : Result Words Fault → Type 0 → Type 0 → Type 0
-IfExec (Ok words) P Q = IsExec words.verb P Q
-IfExec (Err fault) P Q = Q
+-- P where the words ask for a script to be run, and else Q
+abbrev pub IfScript : Result Words Fault → Type 0 → Type 0 → Type 0
+IfScript (Ok words) P Q = ScriptOrFormat words.verb P Q
+IfScript (Err fault) P Q = Q
 
 -- P holds of the layout where the words ask for an image to be formatted
 abbrev pub IfFormat : Result Words Fault → (Layout → Type 0) → Type 0
@@ -79,23 +78,23 @@ pub record Counts : Type 0 where
 -- ---- why a run ends so
 
 -- why a script ends so: it is judged first, then the image, then the run, then the output
-abbrev pub ExecCause : Option (List ℕ) → Option (List ℕ) → Counts → Exit → Type 0
-ExecCause left live n exit.Done = IsScript left × IsGoodImage live
-ExecCause left live n (exit.Usage at kind) = ⊥
-ExecCause left live n (exit.Script line kind) =
+abbrev pub ScriptCause : Option (List ℕ) → Option (List ℕ) → Counts → Exit → Type 0
+ScriptCause left live n exit.Done = IsScript left × IsGoodImage live
+ScriptCause left live n (exit.Usage at kind) = ⊥
+ScriptCause left live n (exit.Script line kind) =
     IfSome left (λ bytes. script_of bytes ≡ Err (script.Line line kind))
-ExecCause left live n (exit.ScriptLimit kind count) =
+ScriptCause left live n (exit.ScriptLimit kind count) =
     IfSome left (λ bytes. script_of bytes ≡ Err (script.Limit kind count))
-ExecCause left live n (exit.Image at kind) =
+ScriptCause left live n (exit.Image at kind) =
     IsScript left × IfSome live (λ m. image_at m ≡ Err (at, kind))
-ExecCause left live n (exit.Bad kind file index) =
+ScriptCause left live n (exit.Bad kind file index) =
     IsScript left × IfSome live (λ m. (v : VolumeTable) × (image_at m ≡ Ok v)
     × (first_defect v ≡ Some (kind, file, index)))
-ExecCause left live n (exit.Disk count) =
+ScriptCause left live n (exit.Disk count) =
     IsScript left × Rose n.disk n.disk_now × (count ≡ risen n.disk n.disk_now)
-ExecCause left live n exit.Sink = IsScript left × IsGoodImage live × Rose n.sink n.sink_now
-ExecCause left live n exit.Source = Rose n.source n.source_now
-ExecCause left live n exit.Memory = ⊤
+ScriptCause left live n exit.Sink = IsScript left × IsGoodImage live × Rose n.sink n.sink_now
+ScriptCause left live n exit.Source = Rose n.source n.source_now
+ScriptCause left live n exit.Memory = ⊤
 
 -- why a disk of this size is not formatted so, or is
 abbrev pub FormatCause : Layout → ℕ → ℕ → ℕ → Exit → Type 0
@@ -117,14 +116,14 @@ abbrev pub ExitCause : Result Words Fault → Option (List ℕ) → Option (List
     → Type 0
 ExitCause (Err (at, kind)) left live size n status = status ≡ exit.Usage at kind
 ExitCause (Ok words) left live size n status =
-    IsExec words.verb (ExecCause left live n status)
+    ScriptOrFormat words.verb (ScriptCause left live n status)
     (IfSome words.layout (λ l. FormatCause l size n.disk n.disk_now status))
 
 -- ---- what ends well
 
 -- The source tells a script and the disk an image that is opened, and none of disk, source and sink
 -- failed.
-pub record MayExec (left live : Option (List ℕ)) (n : Counts) : Type 0 where
+pub record MayRunScript (left live : Option (List ℕ)) (n : Counts) : Type 0 where
   pub script : (bytes : List ℕ) × (left ≡ Some bytes) × IsScript (Some bytes)
   pub image : (m : List ℕ) × (live ≡ Some m) × IsGoodImage (Some m)
   pub disk : ¬ Rose n.disk n.disk_now
@@ -140,7 +139,7 @@ pub record MayFormat (l : Layout) (size : ℕ) (n : Counts) : Type 0 where
 abbrev pub IsAccepted : Result Words Fault → Option (List ℕ) → Option (List ℕ) → ℕ → Counts → Type 0
 IsAccepted (Err fault) left live size n = ⊥
 IsAccepted (Ok words) left live size n =
-    IsExec words.verb (MayExec left live n)
+    ScriptOrFormat words.verb (MayRunScript left live n)
     ((l : Layout) × (words.layout ≡ Some l) × MayFormat l size n)
 
 -- ---- what a script does
@@ -159,8 +158,8 @@ pub record RunsLines (asked : Verb) (parts : Parts) (entries : List Entry) : Typ
   pub order : RunsInOrder asked parts (map line_of entries)
   pub calls : (client : ℕ) → calls_of entries client ≡ expected_calls parts.lines client
 
--- The entries are those of a script. It is what some bytes say, and these are the source's, where it
--- tells them.
+-- The entries are those of a script. It is what some bytes say, and these are the source's, where
+-- it tells them.
 pub record RunsScript (asked : Verb) (left : Option (List ℕ)) (entries : List Entry)
     : Type 0 where
   pub bytes : List ℕ
@@ -189,32 +188,41 @@ CallsOfScript v exit.Memory left entries = RunsScript v left entries ⊎ (entrie
 abbrev pub HasCalls : Result Words Fault → Exit → Option (List ℕ) → List Entry → Type 0
 HasCalls (Err fault) status left entries = entries ≡ []
 HasCalls (Ok words) status left entries =
-    IsExec words.verb (CallsOfScript words.verb status left entries) (entries ≡ [])
+    ScriptOrFormat words.verb (CallsOfScript words.verb status left entries) (entries ≡ [])
 
--- the disk was opened and not called any more: by a sync that succeeded, and at most four reads
+-- The disk was opened and not called any more: by a sync that succeeded and at most four reads, and
+-- none of them failed.
 pub record IsOnlyOpened (old new : Seen) : Type 0 where
   pub reads : SyncThenReads 4 old new
   pub synced : IsSynced old new
+  pub quiet : new.faults ≡ old.faults
+
+-- The disk failed while it was opened: the sync and the reads had one fault at most, and no call
+-- came behind a sync that failed.
+pub record FailsOpening (old new : Seen) : Type 0 where
+  pub reads : SyncThenReads 4 old new
+  pub once : new.faults ≤ old.faults + 1
 
 -- What a run of a script did to the disk that ended so. Where the script was refused, nothing;
 -- where the image was refused, or there are no entries, it was opened, or failed while it was.
-abbrev pub SparesExec : Exit → Seen → Seen → List Entry → Type 0
-SparesExec exit.Done old new entries = entries ≡ [] → IsOnlyOpened old new
-SparesExec (exit.Usage at kind) old new entries = new ≡ old
-SparesExec (exit.Script line kind) old new entries = new ≡ old
-SparesExec (exit.ScriptLimit kind count) old new entries = new ≡ old
-SparesExec (exit.Image at kind) old new entries = IsOnlyOpened old new
-SparesExec (exit.Bad kind file index) old new entries = IsOnlyOpened old new
-SparesExec (exit.Disk count) old new entries = entries ≡ [] → SyncThenReads 4 old new
-SparesExec exit.Sink old new entries = entries ≡ [] → IsOnlyOpened old new
-SparesExec exit.Source old new entries = new ≡ old
-SparesExec exit.Memory old new entries = entries ≡ [] → (new ≡ old) ⊎ IsOnlyOpened old new
+abbrev pub SparesScript : Exit → Seen → Seen → List Entry → Type 0
+SparesScript exit.Done old new entries = entries ≡ [] → IsOnlyOpened old new
+SparesScript (exit.Usage at kind) old new entries = new ≡ old
+SparesScript (exit.Script line kind) old new entries = new ≡ old
+SparesScript (exit.ScriptLimit kind count) old new entries = new ≡ old
+SparesScript (exit.Image at kind) old new entries = IsOnlyOpened old new
+SparesScript (exit.Bad kind file index) old new entries = IsOnlyOpened old new
+SparesScript (exit.Disk count) old new entries = entries ≡ [] → FailsOpening old new
+SparesScript exit.Sink old new entries = entries ≡ [] → IsOnlyOpened old new
+SparesScript exit.Source old new entries = new ≡ old
+SparesScript exit.Memory old new entries = entries ≡ [] → (new ≡ old) ⊎ IsOnlyOpened old new
 
--- what a format did to the disk that ended so: nothing where it has another length, or memory ran
--- out, and else at most two calls
+-- What a format did to the disk that ended so: nothing where it has another length, or memory ran
+-- out, and else at most two calls, of which none failed, or one where it ended in `Disk`.
 abbrev pub SparesFormat : Exit → Seen → Seen → Type 0
-SparesFormat exit.Done old new = new.calls ≤ old.calls + 2
-SparesFormat (exit.Disk count) old new = new.calls ≤ old.calls + 2
+SparesFormat exit.Done old new = (new.calls ≤ old.calls + 2) × (new.faults ≡ old.faults)
+SparesFormat (exit.Disk count) old new =
+    (new.calls ≤ old.calls + 2) × (new.faults ≤ old.faults + 1)
 SparesFormat (exit.Image at kind) old new = new ≡ old
 SparesFormat exit.Memory old new = new ≡ old
 SparesFormat (exit.Usage at kind) old new = ⊥
@@ -228,7 +236,7 @@ SparesFormat exit.Source old new = ⊥
 abbrev pub Spares : Result Words Fault → Exit → Seen → Seen → List Entry → Type 0
 Spares (Err fault) status old new entries = new ≡ old
 Spares (Ok words) status old new entries =
-    IsExec words.verb (SparesExec status old new entries) (SparesFormat status old new)
+    ScriptOrFormat words.verb (SparesScript status old new entries) (SparesFormat status old new)
 
 -- A script takes at most so much of the source as it may hold, and one byte; at `Done` all of it.
 pub record TakesScript (status : Exit) (left left_now : Option (List ℕ)) : Type 0 where
@@ -268,13 +276,12 @@ pub record HoldsFiles (m : List ℕ) (v : VolumeTable) (w : World) : Type 0 wher
   pub stands : StandsFor v m w.files
 
 -- The table that was opened is one, of the disk's length, and its files go together. The disk was
--- synced and read then, which was all that it was called for, and it didn't fail.
+-- called no more than opening does.
 pub record IsOpened (v : VolumeTable) (old opened : Seen) : Type 0 where
   pub table : IsTable v
   pub good : IsGood v
   pub length : old.size ≡ 4096 * v.layout.total
   pub only : IsOnlyOpened old opened
-  pub quiet : opened.faults ≡ old.faults
 
 -- What is to be known of a run that ended so for each stop to be survived: nothing where the lines
 -- ran, and else that the image is one that opens. Where the disk failed without entries, it may
@@ -354,49 +361,17 @@ LaysNew l old new = (live_of new ≡ live_of old) ⊎ (live_of new ≡ with_new_
 
 -- ---- what parts of a run leave
 
--- why a run whose lines ran ends so
-abbrev pub CauseOfEnd : Counts → Exit → Type 0
-CauseOfEnd n exit.Done = ⊤
-CauseOfEnd n (exit.Disk count) = Rose n.disk n.disk_now × (count ≡ risen n.disk n.disk_now)
-CauseOfEnd n exit.Sink = Rose n.sink n.sink_now
-CauseOfEnd n exit.Memory = ⊤
-CauseOfEnd n (exit.Usage at kind) = ⊥
-CauseOfEnd n (exit.Script line kind) = ⊥
-CauseOfEnd n (exit.ScriptLimit kind count) = ⊥
-CauseOfEnd n (exit.Image at kind) = ⊥
-CauseOfEnd n (exit.Bad kind file index) = ⊥
-CauseOfEnd n exit.Source = ⊥
-
--- what a run of a script's lines on an opened core leaves
-pub record LeavesRun (asked : Verb) (o : CoreView) (parts : Parts) (n : Counts)
-    (out out_now : Option (List ℕ)) (now : Seen) (status : Exit)
-    (entries : List Entry) : Type 0 where
-  pub last : CoreView
-  pub sound : IsSound last
-  pub idle : AreIdle last.jobs
-  pub opening : opening_of last ≡ opening_of o
-  pub decided : last.entries ≡ entries
-  pub seen : last.volume.seen ≡ now
-  pub runs : (entries ≡ []) ⊎ RunsLines asked parts entries
-  pub all : status ≢ exit.Memory → RunsLines asked parts entries
-  pub holds : IfUp status entries
-      (IfSome (live_of now) (λ m. Holds m last.volume.table))
-  pub written : WritesAll status (Appended out out_now (printed entries))
-  pub front : AppendedFront out out_now (printed entries)
-  pub down : TellsDown status entries
-  pub cause : CauseOfEnd n status
-
 -- what a run of a script leaves
 pub record Serves (asked : Verb) (left left_now : Option (List ℕ)) (old new : Seen) (n : Counts)
     (out out_now : Option (List ℕ)) (status : Exit) (entries : List Entry) : Type 0 where
   pub history : IsHistory old new status entries
   pub calls : CallsOfScript asked status left entries
-  pub spared : SparesExec status old new entries
+  pub spared : SparesScript status old new entries
   pub input : TakesScript status left left_now
   pub down : TellsDown status entries
   pub written : WritesAll status (Appended out out_now (printed entries))
   pub front : AppendedFront out out_now (printed entries)
-  pub cause : ExecCause left (live_of old) n status
+  pub cause : ScriptCause left (live_of old) n status
 
 -- what formatting a disk leaves
 pub record Formats (l : Layout) (old new : Seen) (status : Exit)

@@ -1,5 +1,5 @@
 //! The call that the program makes.
-ghost use Rattle.std.specs.Prelude.{◌≡◌, ◌≢◌, ◌⊎◌, ◌≤◌, ⊤, [], false, All, ℕ, OnErr, OnOk};
+ghost use Rattle.std.specs.Prelude.{◌≡◌, ◌≢◌, ◌⊎◌, ⊤, [], All, OnErr, OnOk};
 ghost use Rattle.sis_core.specs.Jobs.{AreIdle};
 ghost use Rattle.sis_core.specs.Sound.{IsSound};
 ghost use Rattle.sis_core.specs.Steps.{IsSaved};
@@ -12,8 +12,8 @@ ghost use Rattle.sis_script.specs.Script.{IsBuilt, IsClient};
 ghost use Rattle.sis_script.specs.Views.{parts_of};
 ghost use Rattle.sis_cli.specs.Exit.{exit_of, risen};
 ghost use Rattle.sis_cli.specs.Words.{texts, plan_of};
-ghost use Rattle.sis_cli.specs.Run.{IfExec, IfFormat, ExitCause, IsAccepted, HasCalls, IsHistory};
-ghost use Rattle.sis_cli.specs.Run.{Formats, IsFormatted, LaysNew, LeavesRun, RunsLines, Serves};
+ghost use Rattle.sis_cli.specs.Run.{IfScript, IfFormat, ExitCause, IsAccepted, HasCalls, IsHistory};
+ghost use Rattle.sis_cli.specs.Run.{Formats, IsFormatted, LaysNew, RunsLines, Serves};
 ghost use Rattle.sis_cli.specs.Run.{TellsDown, WritesAll, Spares, TakesScript};
 
 use crate::ending::{Ended, Ending};
@@ -26,6 +26,7 @@ use sis_volume::{Refused, Volume};
 use std::alloc::{AllocError, Global};
 
 // Makes room for the entries of a script's lines and of its clients' ends, and runs the lines.
+#[tactic(auto, using(crate::proofs::Lines::order_length, crate::proofs::Lines::all_served))]
 fn run_lines<D: Disk, G: Guids>(
     core: &mut Core<D, G>,
     verb: Verb,
@@ -53,49 +54,7 @@ fn run_lines<D: Disk, G: Guids>(
     Ok(())
 }
 
-// Runs the lines of a script on an opened core, and prints what was answered.
-fn run_script<D: Disk, G: Guids, K: Sink>(
-    alloc: Global,
-    verb: Verb,
-    core: Core<D, G>,
-    script: Script,
-    out: &mut K,
-) -> Ended<D>
-    requires verb { verb ≢ Verb.Format }
-    requires fresh { core.entries ≡ [] }
-    requires idle { AreIdle core.jobs }
-    requires saved { IsSaved core }
-    requires clients { All (λ l. IsClient l.client) script.lines.items }
-    requires built { All (λ l. IsBuilt l.command) script.lines.items }
-    ensures { (before : ℕ) → before ≤ core.start.faults
-        → LeavesRun verb core (parts_of script) (record {
-          disk = before;
-          disk_now = (D.seen result.disk).faults;
-          source = 0;
-          source_now = 0;
-          sink = K.faults out.old;
-          sink_now = K.faults out.new;
-        }) (K.written out.old) (K.written out.new) (D.seen result.disk)
-        (exit_of (risen before (D.seen result.disk).faults) result.ending)
-        result.history.entries }
-{
-    let mut core = core;
-    match run_lines(&mut core, verb, script) {
-        Ok(()) => {
-            let printed = print_history(alloc, core.history(), out);
-            let is_down = core.down().is_some();
-            let CoreParts { disk, history } = core.into_parts();
-            Ended {
-                ending: Ending::Ran { printed, is_down },
-                history,
-                disk,
-            }
-        }
-        Err(_) => Ended::without_lines(alloc, Ending::NoRoom, core.into_parts().disk),
-    }
-}
-
-// Reads a script, and runs it on the disk's image.
+// Reads a script, runs it on the disk's image, and prints what was answered.
 fn serve<D: Disk, S: Source, K: Sink, G: Guids>(
     alloc: Global,
     verb: Verb,
@@ -121,9 +80,24 @@ fn serve<D: Disk, S: Source, K: Sink, G: Guids>(
         Ok(script) => script,
         Err(fault) => return Ended::without_lines(alloc, Ending::Script(fault), disk),
     };
-    match Core::open(alloc, disk, guids) {
-        Ok(core) => run_script(alloc, verb, core, script, out),
-        Err(Refused { disk, fault }) => Ended::without_lines(alloc, Ending::Image(fault), disk),
+    let mut core = match Core::open(alloc, disk, guids) {
+        Ok(core) => core,
+        Err(Refused { disk, fault }) => {
+            return Ended::without_lines(alloc, Ending::Image(fault), disk);
+        }
+    };
+    match run_lines(&mut core, verb, script) {
+        Ok(()) => {
+            let printed = print_history(alloc, core.history(), out);
+            let is_down = core.down().is_some();
+            let CoreParts { disk, history } = core.into_parts();
+            Ended {
+                ending: Ending::Ran { printed, is_down },
+                history,
+                disk,
+            }
+        }
+        Err(_) => Ended::without_lines(alloc, Ending::NoRoom, core.into_parts().disk),
     }
 }
 
@@ -157,7 +131,7 @@ pub fn run<D: Disk, S: Source, K: Sink, G: Guids>(
     // the start and at the end; each hindrance has its cause in the table before it. A stop at any
     // call behind opening's first leaves an image that opens as the files after some first entries,
     // among them each sync, close and end that was answered by then.
-    ensures history { IfExec (plan_of (texts words.now)) (IsHistory (D.seen disk)
+    ensures history { IfScript (plan_of (texts words.now)) (IsHistory (D.seen disk)
         (D.seen result.disk) result.status result.history.entries) ⊤ }
 
     // It has the script's calls, each once, in the order that the verb has; or none, where the run
@@ -166,17 +140,18 @@ pub fn run<D: Disk, S: Source, K: Sink, G: Guids>(
         result.history.entries }
 
     // Words and scripts that are refused leave the disk as it was. An image that is refused, and a
-    // script without lines, have it called no more than opening does.
+    // script without lines, have it called no more than opening does. An opening that ended well
+    // met no fault of the disk, and one that the disk made fail met one at most.
     ensures spared { Spares (plan_of (texts words.now)) result.status
         (D.seen disk) (D.seen result.disk) result.history.entries }
 
     // Only a script is taken of the input.
-    ensures input { IfExec (plan_of (texts words.now))
+    ensures input { IfScript (plan_of (texts words.now))
         (TakesScript result.status (S.left input.old) (S.left input.new))
         (S.left input.new ≡ S.left input.old) }
 
     // `Done` comes only where no commit failed, and `Disk` after the lines only where one did.
-    ensures down { IfExec (plan_of (texts words.now))
+    ensures down { IfScript (plan_of (texts words.now))
         (TellsDown result.status result.history.entries) ⊤ }
 
     // The bytes written are the printed history, or a front of it where the sink or memory failed.
@@ -185,7 +160,8 @@ pub fn run<D: Disk, S: Source, K: Sink, G: Guids>(
     ensures front { AppendedFront (K.written out.old) (K.written out.new)
         (printed result.history.entries) }
 
-    // A formatted image has no files, and is stable. Whatever its end, only the first blocks change.
+    // A formatted image has no files, and is stable. Whatever its end, only the first blocks
+    // change.
     ensures formatted { IfFormat (plan_of (texts words.now)) (λ layout. result.status ≡ Exit.Done
         → IsFormatted layout (D.seen disk) (D.seen result.disk)) }
     ensures blocks { IfFormat (plan_of (texts words.now)) (λ layout.

@@ -1,54 +1,70 @@
-use Rattle.std.proofs.Common.{ap, arith, sym, refl, subst, Err}
+use Rattle.std.proofs.Common.{ap, refl, Err, ◌∙◌}
+use Rattle.std.specs.Prelude.{is_some}
+use Rattle.sis_disk.specs.Record.{Seen}
 use Rattle.sis_script.specs.Views.{parts_of}
 use Rattle.sis_script.specs.declared.faults.ScriptFault.{ScriptFault}
-use Rattle.sis_journal.specs.Opening.{Caused, IsSynced, SyncThenReads}
-use Rattle.sis_cli.proofs.Early.{serves_no_script, serves_no_image}
-use Rattle.sis_cli.proofs.ServeLemmas.{serves_ran}
+use Rattle.sis_cli.specs.Exit.{risen}
+use Rattle.sis_cli.proofs.Early.{serves_no_image, serves_no_room, serves_no_script}
+use Rattle.sis_cli.proofs.Ran.{is_script, none_opened, serves_ran}
 use Rattle.sis_cli.proofs.top.serve.Goals as goal
 
 pub returns-in-Err : goal.returns-in-Err
 returns-in-Err g c =
-    serves_no_script c.args.verb (g.S.Source.left c.args.input.now) (g.S.Source.left c.read_script.new.source)
-    (g.D.Disk.seen c.args.disk) (g.D.Disk.seen c.without_lines.result.disk) _
-    (g.K.Sink.written c.args.out.now) _ c.in-Err.fault c.without_lines.result.ending
-    c.without_lines.result.history.entries c.without_lines.ensures.entries
-    c.without_lines.ensures.ending
-    (ap (λ (d : g.row.D.Denot). g.D.Disk.seen d) c.without_lines.ensures.disk)
-    c.in-Err.ensures.script
-    (λ e. c.in-Err.ensures.cause (ap (λ (f : ScriptFault). Err f) e)) c.in-Err.ensures.taken
-    (g.met.D.Disk.counted c.args.disk)
+    let ends = c.without_lines.ensures in
+    let read = c.in-Err.ensures in
+    rw (ends.entries, ends.ending, ends.disk)
+    (serves_no_script c.args.verb _ _ _ _ _ _ (g.met.D.Disk.counted c.args.disk) read.taken 0
+    c.in-Err.fault refl read.script (λ e. read.cause (ap (λ (f : ScriptFault). Err f) e)))
 
 pub returns-in-Err-open : goal.returns-in-Err-open
 returns-in-Err-open g c =
-    let same = c.without_lines-in-Err-open.ensures.disk in
-    serves_no_image c.args.verb (g.S.Source.left c.args.input.now) (g.S.Source.left c.read_script.new.source)
-    (g.D.Disk.seen c.args.disk) (g.D.Disk.seen c.without_lines-in-Err-open.result.disk) _
-    (g.K.Sink.written c.args.out.now) (parts_of c.in-Ok.script) c.in-Err-open.field-0.fault
-    c.without_lines-in-Err-open.result.ending c.without_lines-in-Err-open.result.history.entries
-    c.without_lines-in-Err-open.ensures.entries c.without_lines-in-Err-open.ensures.ending
-    c.in-Ok.ensures.script c.in-Ok.ensures.taken c.in-Err-open.ensures.fault
-    (subst (λ (d : g.row.D.Denot).
-    Caused c.in-Err-open.field-0.fault (g.D.Disk.seen c.args.disk).faults (g.D.Disk.seen d).faults)
-    (sym same) c.in-Err-open.ensures.cause)
-    (subst (λ (d : g.row.D.Denot). SyncThenReads 4 (g.D.Disk.seen c.args.disk) (g.D.Disk.seen d))
-    (sym same) c.in-Err-open.ensures.refused)
-    (λ other. subst (λ (d : g.row.D.Denot). IsSynced (g.D.Disk.seen c.args.disk) (g.D.Disk.seen d))
-    (sym same) (c.in-Err-open.ensures.synced other))
-    (g.met.D.Disk.counted c.args.disk)
+    let ends = c.without_lines-in-Err-open.ensures in
+    let is_open = c.in-Err-open.ensures in
+    let read = c.in-Ok.ensures in
+    rw (ends.entries, ends.ending, ends.disk)
+    (serves_no_image c.args.verb _ _ _ _ _ _ (g.met.D.Disk.counted c.args.disk) read.taken _
+    c.in-Err-open.field-0.fault
+    (ap (λ (d : g.row.D.Denot). risen (g.D.Disk.seen c.args.disk).faults (g.D.Disk.seen d).faults)
+    ends.disk) (is_script _ (parts_of c.in-Ok.script) read.script) is_open.fault
+    is_open.cause is_open.refused is_open.refused_quiet is_open.synced)
 
-pub returns-in-Ok-open : goal.returns-in-Ok-open
-returns-in-Ok-open g c =
-    let opened = c.in-Ok-open.ensures.opened in
-    serves_ran c.args.verb (g.S.Source.left c.args.input.now)
-    (g.S.Source.left c.read_script.new.source) (g.D.Disk.seen c.args.disk)
-    (g.D.Disk.seen c.run_script.result.disk) c.in-Ok-open.core (parts_of c.in-Ok.script) _ _
-    (g.K.Sink.written c.args.out.now) (g.K.Sink.written c.run_script.new.out) _
-    c.run_script.result.history.entries refl refl refl refl
+pub returns-in-Err-run_lines : goal.returns-in-Err-run_lines
+returns-in-Err-run_lines g c =
+    let ends = c.without_lines-in-Err-run_lines.ensures in
+    let lines = c.in-Err-run_lines.ensures in
+    let is_open = c.in-Ok-open.ensures in
+    rw (ends.entries, ends.ending, ends.disk, c.into_parts.ensures.seen)
+    (serves_no_room c.args.verb _ _ _ _ _ _ (g.met.D.Disk.counted c.args.disk)
+    c.in-Ok.ensures.taken 0
+    (none_opened _ c.in-Ok-open.core c.run_lines.new.core is_open.opened is_open.sound lines.sound
+    lines.opening lines.idle lines.none))
+
+pub returns-in-Ok-run_lines : goal.returns-in-Ok-run_lines
+returns-in-Ok-run_lines g c =
+    let read = c.in-Ok.ensures in
+    let is_open = c.in-Ok-open.ensures in
+    let lines = c.in-Ok-run_lines.ensures in
+    let print = c.print_history-printed.ensures in
+    rw (c.into_parts-disk.ensures.seen, c.into_parts-disk.ensures.entries)
+    (serves_ran c.args.verb _ _ (parts_of c.in-Ok.script) _ c.in-Ok-open.core c.run_lines.new.core
     (record {
-      some = c.in-Ok.ensures.some;
-      says = c.in-Ok.ensures.script;
-      clients = c.in-Ok.ensures.clients;
-      built = c.in-Ok.ensures.built;
-    }) c.in-Ok.ensures.taken c.in-Ok.ensures.ended opened c.in-Ok-open.ensures.sound
-    (c.run_script.ensures (g.D.Disk.seen c.args.disk).faults
-    (omega (arith, opened.quiet)))
+      some = read.some;
+      says = read.script;
+      clients = read.clients;
+      built = read.built;
+      taken = read.taken;
+      ended = read.ended;
+      from = is_open.opened;
+      before = is_open.sound;
+      sound = lines.sound;
+      idle = lines.idle;
+      opening = lines.opening;
+      runs = lines.runs;
+      saved = lines.saved (λ up. is_open.opened.clean);
+      holds = c.into_parts-disk.ensures.holds;
+    }) _ _ _ _ _ _ _ c.print_history-printed.result c.is_some-is_down.result
+    (ap (λ (s : Seen). risen (g.D.Disk.seen c.args.disk).faults s.faults)
+    c.into_parts-disk.ensures.seen)
+    (c.is_some-is_down.ensures ∙ ap is_some c.down.ensures)
+    (rw c.history.ensures.entries at print.ok) (rw c.history.ensures.entries at print.err)
+    print.cause)
