@@ -1,7 +1,7 @@
 //! What the lines before laid out.
 use crate::disks::TextDisk;
 use crate::fields::{byte, bytes, number, numbers, pick};
-use crate::{outside, requests, streams, tables};
+use crate::{outside, points, requests, streams, tables};
 use anyhow::{Result, bail};
 use std::alloc::{AllocError, Global};
 
@@ -42,6 +42,7 @@ impl Desk {
         let words: Vec<&str> = line.split(' ').collect(alloc)?;
         match words.as_slice() {
             ["request"] => requests::shown(alloc, &self.bytes),
+            ["point"] => points::shown(alloc, &self.bytes),
             ["table"] => tables::shown(alloc, &self.bytes),
             ["edits", most] => tables::edited(alloc, number(most)?, &self.bytes),
             ["guids", first] => outside::counted(alloc, number(first)?),

@@ -1,5 +1,5 @@
-//! Worked cases of what lies below a volume: copy requests, tables, images that keep a text, disks,
-//! streams and GUIDs.
+//! Worked cases of what lies below a volume: copy requests, reparse buffers, tables, images that
+//! keep a text, disks, streams and GUIDs.
 //!
 //! Standard input has lines, which README.md describes. Each is written to standard output again,
 //! and behind it what comes of it.
@@ -10,6 +10,7 @@ mod disks;
 mod fields;
 mod outside;
 mod plain;
+mod points;
 mod requests;
 mod streams;
 mod tables;

@@ -1,4 +1,4 @@
-use Rattle.std.proofs.Common.{◌≡◌, ◌∙◌, ◌∷◌, [], List, refl, sym, subst, arith}
+use Rattle.std.proofs.Common.{◌∙◌, ◌∷◌, [], List, refl, sym, subst, arith}
 use Rattle.sis_disk.specs.declared.layout.Layout.{Layout}
 use Rattle.sis_table.specs.Edits.{MayEditBy, stretch}
 use Rattle.sis_table.specs.Volume.{VolumeTable, IsTable, empty_table}
