@@ -60,16 +60,23 @@ class Volume:
         words = [program, "format", image, str(TOTAL_BLOCKS), str(AREA_BLOCKS), "C"]
         subprocess.run(words, check=True, stdin=subprocess.DEVNULL)
 
-    def exec(self, lines, tracer=()):
-        """Runs a script, sees that each command was done, and returns the seconds that it took."""
+    def run(self, verb, lines, tracer=()):
+        """Runs a script, sees that its commands were done, and returns seconds and replies."""
         script = "".join(lines).encode()
-        words = [*tracer, self.program, "exec", self.image]
+        words = [*tracer, self.program, verb, self.image]
         start = time.perf_counter()
         ran = subprocess.run(words, input=script, stdout=subprocess.PIPE, check=True)
         seconds = time.perf_counter() - start
-        statuses = [line.split(b" ")[2] for line in ran.stdout.splitlines()]
-        if statuses != [b"00000000"] * (len(lines) + 1):
-            sys.exit("run.py: a command was not done: " + ran.stdout[:400].decode(errors="replace"))
+        replies = [line.split(b" ") for line in ran.stdout.splitlines()]
+        if any(reply[2] != b"00000000" for reply in replies):
+            sys.exit("bench: a command was not done: " + ran.stdout[:400].decode(errors="replace"))
+        return seconds, replies
+
+    def exec(self, lines, tracer=()):
+        """Runs a script of one client, and returns the seconds that it took."""
+        seconds, replies = self.run("exec", lines, tracer)
+        if len(replies) != len(lines) + 1:
+            sys.exit(f"bench: {len(lines)} commands and an end have {len(replies)} replies")
         return seconds
 
     def front(self):
