@@ -12,15 +12,13 @@ its column. Nothing is committed.
 """
 
 import argparse
-import os
 import random
 import statistics
 import subprocess
 import sys
 import tempfile
-from pathlib import Path
 
-from run import TOP, count_of, micros, processor, ratio
+from run import count_of, machine, micros, program_at, ratio
 
 BLOCK_LEN = 4096
 RUNS = (1, 100, 10000)
@@ -138,10 +136,7 @@ def main():
     add("--rounds", type=count_of(1, 1000), default=200, help="batches of each kind (200)")
     args = parser.parse_args()
 
-    default = os.environ.get("SIS_OPS") or TOP / "crates/sis_ops/out/sis_ops"
-    program = str(Path(args.program or default).resolve())
-    if not os.access(program, os.X_OK):
-        sys.exit(f"operations.py: {program} is no program: build sis_ops, or give the path of one")
+    program = program_at(args.program, "SIS_OPS", "crates/sis_ops/out/sis_ops")
     runs = runs_script(args.batch, args.rounds).run(program)
     files = files_script(args.batch, args.rounds).run(program)
     lines = [
@@ -150,7 +145,7 @@ def main():
         *table("Files", FILES, ["put", "write", "remove"], files, args.batch),
         "",
         f"Operations in a batch: {args.batch}. Batches of each kind: {args.rounds}.",
-        f"Processor: {processor()}, {os.cpu_count()} of them seen.",
+        machine(),
     ]
     print("\n".join(lines))
 

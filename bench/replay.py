@@ -15,9 +15,8 @@ import os
 import random
 import sys
 import tempfile
-from pathlib import Path
 
-from run import TOP, Volume, count_of, draw_names, micros, processor, put, ratio
+from run import Volume, count_of, draw_names, machine, micros, program_at, put, ratio
 
 LINES = (256, 1024, 4096)
 MOST_CLIENTS = 16
@@ -77,10 +76,7 @@ def main():
     add("--folder", help="where the image of 256 MiB is kept meanwhile")
     args = parser.parse_args()
 
-    default = os.environ.get("SIS") or TOP / "crates/sis/out/sis"
-    program = str(Path(args.sis or default).resolve())
-    if not os.access(program, os.X_OK):
-        sys.exit(f"replay.py: {program} is no program: build sis first, or give the path of one")
+    program = program_at(args.sis, "SIS", "crates/sis/out/sis")
     draw = random.Random(1)
     names = draw_names(draw, FILES)
     kinds = [*((MOST_CLIENTS, lines) for lines in LINES), (1, LINES[-1])]
@@ -94,7 +90,7 @@ def main():
         *table("Clients", [(clients, taken[clients, LINES[-1]]) for clients in (1, MOST_CLIENTS)]),
         "",
         f"Runs of each kind: {args.repeats}.",
-        f"Processor: {processor()}, {os.cpu_count()} of them seen.",
+        machine(),
     ]
     print("\n".join(lines))
 

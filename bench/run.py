@@ -210,6 +210,19 @@ def processor():
     return platform.processor() or platform.machine()
 
 
+def machine():
+    """The processor, and how many of it are seen, as a line."""
+    return f"Processor: {processor()}, {os.cpu_count()} of them seen."
+
+
+def program_at(word, variable, built):
+    """The program that is measured: this word, else what the variable names, else the built one."""
+    path = Path(word or os.environ.get(variable) or TOP / built).resolve()
+    if not os.access(path, os.X_OK):
+        sys.exit(f"{Path(sys.argv[0]).name}: {path} is no program: build it, or give another's path")
+    return str(path)
+
+
 def durable_report(rows):
     """The table of durable puts, as text."""
     lines = [
@@ -245,7 +258,7 @@ def report(rows, durable, args):
         )
     lines += ["", *durable_report(durable)]
     lines += [
-        f"Processor: {processor()}, {os.cpu_count()} of them seen.",
+        machine(),
         f"System: {platform.system()} {platform.release()}. Python {platform.python_version()}.",
     ]
     return "\n".join(lines) + "\n"
@@ -275,10 +288,7 @@ def main():
     add("--write", action="store_true", help="write bench/results/DATE.md too")
     args = parser.parse_args()
 
-    default = os.environ.get("SIS") or TOP / "crates/sis/out/sis"
-    program = str(Path(args.sis or default).resolve())
-    if not os.access(program, os.X_OK):
-        sys.exit(f"run.py: {program} is no program: build sis first, or give the path of one")
+    program = program_at(args.sis, "SIS", "crates/sis/out/sis")
     with tempfile.TemporaryDirectory(dir=args.folder) as folder:
         durable = measure_durable(Volume(program, os.path.join(folder, "durable.img")))
         os.remove(os.path.join(folder, "durable.img"))
