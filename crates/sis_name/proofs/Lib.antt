@@ -1,3 +1,4 @@
 pub mod Named
+pub mod StoreLemmas
 pub mod SurrogateLemmas
 pub mod Wellformed

@@ -2,12 +2,18 @@
 #![tactic(auto)]
 
 mod fault;
+mod laws;
 mod name;
 mod status;
+mod store;
 #[cfg(test)]
 mod tests;
 mod units;
 
 pub use fault::NameFault;
+pub use laws::{
+    each_guid_has_its_own_name, only_store_names_have_a_guid, store_name_has_its_guid,
+    store_name_is_a_name,
+};
 pub use name::Name;
 pub use status::Status;

@@ -3,8 +3,10 @@ ghost use Rattle.std.specs.Prelude.{◌≡◌, ◌⊎◌, IfOk, IfErr, IfSome, E
 ghost use Rattle.sis_name.specs.declared.fault.NameFault.TheVariants.{Memory};
 ghost use Rattle.sis_name.specs.Name.{IsName, RefusesName, name_fault};
 ghost use Rattle.sis_name.specs.Units.{is_store_name, text_units, name_text};
+ghost use Rattle.sis_name.specs.StoreNames.{store_name, store_guid};
 
 use crate::fault::{NameFault, first_fault};
+use crate::store::{STORE_PREFIX, guid_of_units, units_of_guid};
 use crate::units::units_of;
 use std::alloc::{AllocError, Global};
 use std::cmp::Ordering;
@@ -30,12 +32,6 @@ impl Model for Name {
 
     ghost invariant = { λ n. IsName n.units.items };
 }
-
-/// `SIS Common Store\` in UTF-16.
-const STORE_PREFIX: [u16; 17] = [
-    0x53, 0x49, 0x53, 0x20, 0x43, 0x6f, 0x6d, 0x6d, 0x6f, 0x6e, 0x20, 0x53, 0x74, 0x6f, 0x72, 0x65,
-    0x5c,
-];
 
 impl Name {
     /// The name with these units.
@@ -67,6 +63,15 @@ impl Name {
             Some(fault) => Err(fault),
             None => Ok(Name { units }),
         }
+    }
+
+    /// The name of the store file with this GUID.
+    pub fn of_store(alloc: Global, guid: [u8; 16]) -> Result<Name, AllocError>
+        ensures { IfOk result (λ name. name ≡ store_name guid) }
+    {
+        Ok(Name {
+            units: units_of_guid(alloc, guid)?,
+        })
     }
 
     /// The units, which are those of a name.
@@ -101,6 +106,15 @@ impl Name {
         ensures name { IsName self.now }
     {
         self.units.starts_with(&STORE_PREFIX)
+    }
+
+    /// The GUID of the store file with this name, if the name has the one spelling of a GUID.
+    ///
+    /// Takes no memory.
+    pub fn store_guid(&self) -> Option<[u8; 16]>
+        ensures { result ≡ store_guid self.now }
+    {
+        guid_of_units(&self.units)
     }
 }
 

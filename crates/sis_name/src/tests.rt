@@ -36,6 +36,25 @@ const REFUSED: [(&[u16], NameFault, &str); 6] = [
 /// Names from the least one up.
 const RISING: [&str; 5] = ["a", "a\\b", "ab", "\u{1F600}", "\u{E000}"];
 
+/// GUIDs, and the texts of their store files' names.
+const STORE_FILES: [([u8; 16], &str); 2] = [
+    (
+        [0, 0, 0, 0, 0, 0, 0, 0, 0, 0, 0, 0, 0, 0, 0, 1],
+        "SIS Common Store\\00000000-0000-0000-0000-000000000001.sis",
+    ),
+    (
+        [0, 1, 2, 3, 4, 5, 6, 7, 8, 9, 10, 11, 12, 13, 14, 15],
+        "SIS Common Store\\03020100-0504-0706-0809-0a0b0c0d0e0f.sis",
+    ),
+];
+
+/// Names that differ from a store file's: by capital letters, the ending, one unit more.
+const NO_STORE_FILES: [&str; 3] = [
+    "SIS Common Store\\03020100-0504-0706-0809-0A0B0C0D0E0F.sis",
+    "SIS Common Store\\03020100-0504-0706-0809-0a0b0c0d0e0f",
+    "SIS Common Store\\03020100-0504-0706-0809-0a0b0c0d0e0f.sisx",
+];
+
 /// Each status with its number in [MS-ERREF].
 const NUMBERS: [(Status, u32); 14] = [
     (Status::Success, 0x0000_0000),
@@ -95,6 +114,23 @@ fn store_files_have_the_names_below_the_common_store(rt: HostRuntime) -> Result<
         assert_eq!(rt;
             Name::from_text(rt.alloc(), text)?.is_store(),
             is_store,
+            "{text}"
+        );
+    }
+    Ok(())
+}
+
+#[test]
+fn a_store_file_is_named_by_its_guid(rt: HostRuntime) -> Result<(), Fail> {
+    for (guid, text) in STORE_FILES {
+        let name = Name::of_store(rt.alloc(), guid)?;
+        assert_eq!(rt; name.to_text(rt.alloc())?.as_str(), text);
+        assert_eq!(rt; name.store_guid(), Some(guid), "{text}");
+    }
+    for text in NO_STORE_FILES {
+        assert_eq!(rt;
+            Name::from_text(rt.alloc(), text)?.store_guid(),
+            None,
             "{text}"
         );
     }
