@@ -1,14 +1,13 @@
 -- An image that a stop left is refused for nothing that it holds.
 use Rattle.std.proofs.Common.{◌≡◌, ◌⊎◌, inl, inr, ℕ, List, refl}
 use Rattle.std.specs.Prelude.{IfSome}
-use Rattle.sis_disk.specs.Record.{Seen, live_of}
+use Rattle.sis_disk.specs.Record.{BeginsWith, Seen, live_of}
 use Rattle.sis_journal.specs.declared.fault.OpenFault.{OpenFault}
 use Rattle.sis_journal.specs.declared.fault.OpenFault.TheVariants as fault
 use Rattle.sis_name.specs.Files.{Files}
 use Rattle.sis_table.specs.Image.{image_at}
 use Rattle.sis_table.specs.Opens.{OpensAs}
 use Rattle.sis_volume.specs.Opening.{FailsAs}
-use Rattle.sis_cli.specs.Stops.{BeginsWith}
 use Rattle.sis_cli.proofs.Defects.{read_sound}
 
 pub image_refused : (files : Files) (m : List ℕ) (seen : Seen) (by : OpenFault) → OpensAs files m

@@ -2,7 +2,7 @@
 use Rattle.std.specs.Prelude.{◌≡◌, ◌≢◌, ◌⊎◌, ℕ, ◌*◌, ◌+◌, ◌≤◌, true, false, List, [], map, All, ⊤}
 use Rattle.std.specs.Prelude.{Option, Some, None, IfSome, Result, Ok, Err}
 use Rattle.std.specs.Option.{option_map}
-use Rattle.sis_disk.specs.Record.{DiskRecord, Seen, Rose, laid, live_of}
+use Rattle.sis_disk.specs.Record.{DiskRecord, Seen, SyncsAt, Rose, laid, live_of}
 use Rattle.sis_disk.specs.declared.layout.Layout.{Layout}
 use Rattle.sis_disk.specs.declared.layout.ImageKind.TheVariants as image
 use Rattle.sis_disk.specs.Streams.{Appended, AppendedFront}
@@ -32,7 +32,6 @@ use Rattle.sis_journal.specs.Formatting.{EndsInSync, new_blocks}
 use Rattle.sis_core.specs.Opening.{Starts}
 use Rattle.sis_cli.specs.Words.{Words, Fault}
 use Rattle.sis_cli.specs.Exit.{risen, length_at}
-use Rattle.sis_cli.specs.Stops.{SyncsAt}
 use Rattle.sis_cli.specs.declared.usage.Verb.{Verb}
 use Rattle.sis_cli.specs.declared.usage.Verb.TheVariants as verb
 use Rattle.sis_cli.specs.declared.exit.Exit.{Exit}

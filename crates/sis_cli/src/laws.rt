@@ -2,7 +2,7 @@
 //! is for.
 ghost use Rattle.std.specs.Prelude.{◌≡◌, ◌⊎◌, ℕ, List, [], Some, Ok, IfSome};
 ghost use Rattle.sis_core.specs.Opening.{world_in};
-ghost use Rattle.sis_disk.specs.Record.{Seen, live_of};
+ghost use Rattle.sis_disk.specs.Record.{BeginsWith, Seen, live_of};
 ghost use Rattle.sis_journal.specs.declared.fault.OpenFault.{OpenFault as AnOpenFault};
 ghost use Rattle.sis_journal.specs.declared.fault.OpenFault.TheVariants as fault;
 ghost use Rattle.sis_table.specs.Content.{files_in};
@@ -13,7 +13,6 @@ ghost use Rattle.sis_table.specs.Opens.{OpensAs};
 ghost use Rattle.sis_table.specs.Volume.{VolumeTable};
 ghost use Rattle.sis_volume.specs.Opening.{FailsAs};
 ghost use Rattle.sis_cli.specs.Run.{IsGoodImage};
-ghost use Rattle.sis_cli.specs.Stops.{BeginsWith};
 
 /// A disk whose bytes are an image that opens as some files is opened as a table that has just
 /// these files, unless the disk fails or memory runs out, and a script on it begins with them.

@@ -1,5 +1,5 @@
 -- The calls of a disk: what it then has, and what a stop may leave.
-use Rattle.std.specs.Prelude.{◌≡◌, ◌⊎◌, ℕ, ◌+◌, ◌-◌, ◌^◌, ◌<◌, ◌≤◌, min, nat_le, nat_lt, Bool, true, false, ◌&&◌, ◌||◌, List, [], ◌∷◌, ◌++◌, length, take, drop, slice_index, Option, IfSome, Result, OnOk, OnErr}
+use Rattle.std.specs.Prelude.{◌≡◌, ◌⊎◌, ℕ, ◌+◌, ◌-◌, ◌^◌, ◌<◌, ◌≤◌, min, nat_le, nat_lt, Bool, true, false, ◌&&◌, ◌||◌, List, [], ◌∷◌, ◌++◌, length, take, drop, slice_get, slice_index, Option, Some, IfSome, Result, OnOk, OnErr}
 use Rattle.std.specs.Option.{option_map}
 
 -- a call that was made: its range, the bytes of a write, and whether it succeeded
@@ -109,3 +109,11 @@ live_of seen = option_map live_bytes seen.told
 -- the count of calls is that of the record, where the disk tells it
 abbrev pub IsCounted : Seen → Type 0
 IsCounted seen = IfSome seen.told (λ r. length r.calls ≡ seen.calls)
+
+-- call number n of the record is a sync that succeeded
+abbrev pub SyncsAt : ℕ → DiskRecord → Type 0
+SyncsAt n r = slice_get r.calls n ≡ Some (Syncs true)
+
+-- the disk tells these bytes, and no call yet
+abbrev pub BeginsWith : List ℕ → Seen → Type 0
+BeginsWith m seen = seen.told ≡ Some (record { opening = m; calls = [] })
