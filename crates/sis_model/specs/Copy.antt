@@ -40,17 +40,22 @@ path_in letter units =
 abbrev pub or_refused : Bool → Reply → Option Reply → Option Reply
 or_refused test refusal next = if test then Some refusal else next
 
+-- the first refusal of a copy of a file under another name
+abbrev pub refusal_of_files : World → List ℕ → List ℕ → ℕ → Option Reply
+refusal_of_files w source destination flags =
+    or_refused (is_store_name source || is_store_name destination) reply.AccessDenied
+    (or_refused (same_name source destination) reply.InvalidParameter
+    (or_refused (not (is_some (bytes_of w source))) reply.NotFound
+    (or_refused (is_some (bytes_of w destination) && not (may_replace flags)) reply.Collision
+    (or_refused (is_written w source) reply.InUse
+    (or_refused (is_open w destination) reply.InUse None)))))
+
 -- the first refusal of a copy between two paths of this volume
 abbrev pub refusal_of_names : World → List ℕ → List ℕ → ℕ → Option Reply
 refusal_of_names w source destination flags =
     or_refused (is_some (name_fault source)) reply.NotFound
     (or_refused (is_some (name_fault destination)) reply.NameInvalid
-    (or_refused (is_store_name source || is_store_name destination) reply.AccessDenied
-    (or_refused (same_name source destination) reply.InvalidParameter
-    (or_refused (not (is_some (bytes_of w source))) reply.NotFound
-    (or_refused (is_some (bytes_of w destination) && not (may_replace flags)) reply.Collision
-    (or_refused (is_written w source) reply.InUse
-    (or_refused (is_open w destination) reply.InUse None)))))))
+    (refusal_of_files w source destination flags))
 
 -- the same, where both paths have to be on this volume
 abbrev pub refusal_of_paths : World → Option (List ℕ) → Option (List ℕ) → ℕ → Option Reply
@@ -70,6 +75,22 @@ abbrev pub refusal_of_control : World → ℕ → List ℕ → Option Reply
 refusal_of_control w code bytes =
     or_refused (not (code == copy_code)) reply.InvalidDeviceRequest
     (refusal_of_request w (request_at bytes))
+
+-- what stands in a request behind the volume's letter, and its flags
+pub record Asked : Type 0 where
+  pub source : List ℕ
+  pub destination : List ℕ
+  pub flags : ℕ
+
+abbrev pub asked_paths : Option (List ℕ) → Option (List ℕ) → ℕ → Option Asked
+asked_paths None destination flags = None
+asked_paths (Some source) None flags = None
+asked_paths (Some source) (Some destination) flags =
+    Some (record { source = source; destination = destination; flags = flags })
+
+abbrev pub asked_in : ℕ → Result Request RequestFault → Option Asked
+asked_in letter (Err fault) = None
+asked_in letter (Ok r) = asked_paths (path_in letter r.source) (path_in letter r.destination) r.flags
 
 -- the destination has the source's bytes
 abbrev pub copied_paths : World → Option (List ℕ) → Option (List ℕ) → World

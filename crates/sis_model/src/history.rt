@@ -1,5 +1,6 @@
 //! The lines of a script, and the history of a run.
-ghost use Rattle.std.specs.Prelude.{◌≡◌, ◌++◌, ◌∷◌, [], ◌+◌, ◌<◌, ◌≤◌, ◌^◌, length, OnOk};
+ghost use Rattle.sis_model.specs.declared.history.Entry.{Entry as TheEntry};
+ghost use Rattle.std.specs.Prelude.{◌≡◌, ◌++◌, ◌∷◌, [], ◌+◌, ◌<◌, ◌≤◌, ◌^◌, length, slice_get, slice_set, OnOk, Some};
 
 use crate::{Command, Reply};
 use std::alloc::{AllocError, Global};
@@ -81,6 +82,18 @@ impl History {
         ensures spare { self.old.spare ≤ self.new.spare + 1 }
     {
         self.entries.push(entry).unwrap();
+    }
+
+    /// The client of the entry at this place is answered when the disk has made so many calls.
+    /// Takes no memory.
+    pub fn answer(&mut self, at: usize, calls: u64)
+        requires { at < length self.old.entries }
+        ensures { (e : TheEntry) → slice_get self.old.entries at ≡ Some e
+            → self.new ≡ record self.old {
+              entries = slice_set self.old.entries at (record e { answered = calls });
+            } }
+    {
+        self.entries[at].answered = calls;
     }
 
     /// How many entries there are.

@@ -16,6 +16,7 @@ ghost use Rattle.sis_name.specs.Files.{Files};
 
 mod bytes;
 mod command;
+mod copying;
 mod history;
 mod names;
 mod past;
@@ -28,6 +29,7 @@ mod unsettled;
 
 pub use bytes::Bytes;
 pub use command::Command;
+pub use copying::AskedCopy;
 pub use history::{Entry, History, Line};
 pub use names::NameList;
 pub use past::Past;

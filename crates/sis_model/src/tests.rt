@@ -1,6 +1,7 @@
 //! That each call can succeed.
 use crate::{
-    Bytes, Command, Entry, Hindrance, History, NameList, Reply, UnsettledFile, UnsettledList,
+    AskedCopy, Bytes, Command, Entry, Hindrance, History, NameList, Reply, UnsettledFile,
+    UnsettledList,
 };
 use sis_name::Name;
 use std::alloc::AllocError;
@@ -32,6 +33,33 @@ fn a_history_has_the_entries_that_were_added(rt: HostRuntime) -> Result<(), Fail
     assert_eq!(rt; history.len(), 1);
     assert_eq!(rt; history.as_slice().len(), 1);
     assert!(rt; matches!(history.as_slice()[0].reply, Reply::Done));
+    history.answer(0, 7);
+    assert_eq!(rt; history.len(), 1);
+    assert_eq!(rt; history.as_slice()[0].answered, 7);
+    Ok(())
+}
+
+/// The request to copy `C:\a` to `C:\b`, with flags 2: its lengths and flags, and the two names.
+const REQUEST: [u8; 32] = [
+    10, 0, 0, 0, 10, 0, 0, 0, 2, 0, 0, 0, 0x43, 0, 0x3a, 0, 0x5c, 0, 0x61, 0, 0, 0, 0x43, 0, 0x3a,
+    0, 0x5c, 0, 0x62, 0, 0, 0,
+];
+
+#[test]
+fn a_request_asks_for_a_copy_on_its_own_volume(rt: HostRuntime) -> Result<(), Fail> {
+    match AskedCopy::read(rt.alloc(), b'C', &REQUEST) {
+        Ok(asked) => {
+            assert_eq!(rt; asked.source.units(), [0x61].as_slice());
+            assert_eq!(rt; asked.destination.units(), [0x62].as_slice());
+            assert_eq!(rt; asked.flags, 2);
+        }
+        Err(_) => assert!(rt; false),
+    }
+
+    let elsewhere = AskedCopy::read(rt.alloc(), b'D', &REQUEST);
+    assert!(rt; matches!(elsewhere, Err(Reply::NotSameDevice)));
+    let short = AskedCopy::read(rt.alloc(), b'C', &REQUEST[..31]);
+    assert!(rt; matches!(short, Err(Reply::InvalidRequest { .. })));
     Ok(())
 }
 
